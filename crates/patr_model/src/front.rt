@@ -1,0 +1,31 @@
+//! The words in which the notation of tokens is defined.
+
+/// What a token is.
+#[derive(Clone, Copy, Debug, PartialEq, Eq)]
+pub enum Kind {
+    Less,
+    Greater,
+    Equal,
+    OpenBrace,
+    CloseBrace,
+    OpenParen,
+    CloseParen,
+    OpenBracket,
+    CloseBracket,
+    Slash,
+    Colon,
+    Dot,
+    Arrow,
+    Word,
+}
+
+/// What stands at the front of some bytes, and how many bytes it has.
+#[derive(Clone, Copy, Debug, PartialEq, Eq)]
+pub enum Front {
+    /// White space, or a comment.
+    Blank(usize),
+    /// A token.
+    Piece(Kind, usize),
+    /// A character that is refused.
+    Control,
+}
