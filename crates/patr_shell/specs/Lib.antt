@@ -1,0 +1,9 @@
+pub mod Charted
+pub mod Closing
+pub mod Edges
+pub mod Kept
+pub mod Lists
+pub mod Numbered
+pub mod Pending
+pub mod Predicting
+pub mod Spoken

@@ -1,0 +1,21 @@
+-- The lists of edge numbers by position.
+use Rattle.std.specs.Prelude.{◌≡◌, ℕ, Bool, true, false, cond, List, [], ◌∷◌, ◌++◌, length, map, set, get_or}
+use Rattle.std.proofs.Common.{Vec, Global}
+use Rattle.patr_shell.specs.declared.edge.Edge.{Edge}
+use Rattle.patr_shell.specs.Edges.{is_passive}
+
+abbrev pub Numbers : Type 0
+Numbers = List (List ℕ)
+
+abbrev pub numbers : List (Vec ℕ Global) → Numbers
+numbers lists = map (λ v. v.items) lists
+
+-- with one more number in the list of this position
+abbrev pub with_number : Numbers → ℕ → ℕ → Numbers
+with_number lists at n = set lists at (get_or lists at [] ++ n ∷ [])
+
+-- the lists with the number of one more edge, whose partners are these many
+pub record IsEntered (e : Edge) (n : ℕ) (S E S2 E2 : Numbers) (m : ℕ) : Type 0 where
+  pub starting : S2 ≡ cond (is_passive e) (with_number S e.start n) S
+  pub ending : E2 ≡ cond (is_passive e) E (with_number E e.end n)
+  pub count : m ≡ cond (is_passive e) (length (get_or E e.start [])) (length (get_or S e.end []))
