@@ -1,0 +1,153 @@
+-- The words and the files of a run come to one opening, and a run has one text and one ending.
+use Rattle.std.proofs.Common.{◌≡◌, inl, inr, ℕ, ◌+◌, ◌<◌, ◌≤◌, Bool, List, [], ◌∷◌, ◌++◌, length, take, Option, Some, None, Ok, Err, refl, sym, ap, ◌∙◌, subst, arith, IsUtf8, nat_lt, ltb-true, ltb-false, true, false}
+use Rattle.std.proofs.Math.Seq.{take-length}
+use Rattle.patr_model.specs.Plain.{plain}
+use Rattle.patr_model.specs.Session.{Numbering, Grounds, State, Command, LineForms, Judge, Replied, line}
+use Rattle.patr_model.specs.Run.{Ending, Setup, Notations, Opening, Session, first_state, IsSession, ended, quit, too_long, AfterGrammar, absent, long, fault, refused, built, AfterWords, read, IsOpening, Follows, IsOut}
+use Rattle.patr_model.specs.Tokens.{Place, Token, tokens_of}
+use Rattle.patr_model.specs.FirstPass.{PlainRule, PlainEntry, Got, Stops, rules, StopsUtf8, ReadsRules, RulesTrouble, RefusesRules, rules_line, RulesFault, lexicon_lines, entries, Entries, StopsAtLine, ReadsEntries, EntriesTrouble, RefusesEntries, entries_line, EntriesFault, stop, first_pass, sentences_alone}
+use Rattle.patr_model.specs.Laws.{LeastTextsAreOne}
+use Rattle.patr_model.proofs.Maps.{some_inj}
+use Rattle.patr_model.proofs.Canonical.{least_texts}
+use Rattle.patr_model.proofs.RenamedRuns.{one_session, first_pass_same}
+
+-- Notations that read, refuse and build one thing, and read nothing that they refuse.
+module _ (notation : Notations) (N : Numbering)
+    (one_grammar : (b : List ℕ) (g h : notation.grammar_text) → notation.reads_grammar N b g → notation.reads_grammar N b h → g ≡ h)
+    (one_grammar_fault : (b x y : List ℕ) → notation.grammar_fault N b x → notation.grammar_fault N b y → x ≡ y)
+    (no_grammar_fault : (b x : List ℕ) (g : notation.grammar_text) → notation.reads_grammar N b g → notation.grammar_fault N b x → ⊥)
+    (one_lexicon : (b : List ℕ) (l k : notation.lexicon_text) → notation.reads_lexicon N b l → notation.reads_lexicon N b k → l ≡ k)
+    (one_lexicon_fault : (b x y : List ℕ) → notation.lexicon_fault N b x → notation.lexicon_fault N b y → x ≡ y)
+    (no_lexicon_fault : (b x : List ℕ) (l : notation.lexicon_text) → notation.reads_lexicon N b l → notation.lexicon_fault N b x → ⊥)
+    (one_refusal : (g : notation.grammar_text) (l : notation.lexicon_text) (x y : List ℕ) (e f : Ending) → notation.refuses N g l x e → notation.refuses N g l y f → (x ≡ y) × (e ≡ f))
+    (no_refusal : (g : notation.grammar_text) (l : notation.lexicon_text) (x : List ℕ) (e : Ending) (s : Grounds) → notation.builds N g l s → notation.refuses N g l x e → ⊥)
+    (one_build : (g : notation.grammar_text) (l : notation.lexicon_text) (s s' : Grounds) → notation.builds N g l s → notation.builds N g l s' → s ≡ s') where
+  bytes_one : (o : Option (List ℕ)) (b c : List ℕ) → o ≡ Some b → o ≡ Some c → b ≡ c
+  bytes_one o b c p q = some_inj b c (sym p ∙ q)
+
+  after_grammar : (setup : Setup) (g h : notation.grammar_text) → g ≡ h → (bytes : Option (List ℕ)) (o u : Opening) → AfterGrammar notation N setup g bytes o → AfterGrammar notation N setup h bytes u → o ≡ u
+  after_grammar setup g h same bytes o u (absent q p) (absent q' p') = p ∙ sym p'
+  after_grammar setup g h same bytes o u (absent q p) (long c q' l' p') = cc
+  after_grammar setup g h same bytes o u (absent q p) (fault c q' l' y t' p') = cc
+  after_grammar setup g h same bytes o u (absent q p) (refused c k q' l' r' y f t' p') = cc
+  after_grammar setup g h same bytes o u (absent q p) (built c k s' q' l' r' t' p') = cc
+  after_grammar setup g h same bytes o u (long b q l p) (absent q' p') = cc
+  after_grammar setup g h same bytes o u (long b q l p) (long c q' l' p') = p ∙ sym p'
+  after_grammar setup g h same bytes o u (long b q l p) (fault c q' l' y t' p') = let e = ap length (bytes_one bytes b c q q') in absurd (omega (arith, l, l'))
+  after_grammar setup g h same bytes o u (long b q l p) (refused c k q' l' r' y f t' p') = let e = ap length (bytes_one bytes b c q q') in absurd (omega (arith, l, l'))
+  after_grammar setup g h same bytes o u (long b q l p) (built c k s' q' l' r' t' p') = let e = ap length (bytes_one bytes b c q q') in absurd (omega (arith, l, l'))
+  after_grammar setup g h same bytes o u (fault b q l x t p) (absent q' p') = cc
+  after_grammar setup g h same bytes o u (fault b q l x t p) (long c q' l' p') = let e = ap length (bytes_one bytes b c q q') in absurd (omega (arith, l, l'))
+  after_grammar setup g h same bytes o u (fault b q l x t p) (fault c q' l' y t' p') =
+      p ∙ (ap (λ z. Refusal z BadLexicon) (one_lexicon_fault c x y (subst (λ z. notation.lexicon_fault N z x) (bytes_one bytes b c q q') t) t') ∙ sym p')
+  after_grammar setup g h same bytes o u (fault b q l x t p) (refused c k q' l' r' y f t' p') =
+      absurd (no_lexicon_fault c x k r' (subst (λ z. notation.lexicon_fault N z x) (bytes_one bytes b c q q') t))
+  after_grammar setup g h same bytes o u (fault b q l x t p) (built c k s' q' l' r' t' p') =
+      absurd (no_lexicon_fault c x k r' (subst (λ z. notation.lexicon_fault N z x) (bytes_one bytes b c q q') t))
+  after_grammar setup g h same bytes o u (refused b m q l r x e t p) (absent q' p') = cc
+  after_grammar setup g h same bytes o u (refused b m q l r x e t p) (long c q' l' p') = let e = ap length (bytes_one bytes b c q q') in absurd (omega (arith, l, l'))
+  after_grammar setup g h same bytes o u (refused b m q l r x e t p) (fault c q' l' y t' p') =
+      absurd (no_lexicon_fault c y m (subst (λ z. notation.reads_lexicon N z m) (bytes_one bytes b c q q') r) t')
+  after_grammar setup g h same bytes o u (refused b m q l r x e t p) (refused c k q' l' r' y f t' p') =
+      let lexicon = one_lexicon c m k (subst (λ z. notation.reads_lexicon N z m) (bytes_one bytes b c q q') r) r' in
+      let one = one_refusal h k x y e f (subst (λ z. notation.refuses N z k x e) same (subst (λ z. notation.refuses N g z x e) lexicon t)) t' in
+      p ∙ (ap (λ z. Refusal z e) one.0 ∙ (ap (λ z. Refusal y z) one.1 ∙ sym p'))
+  after_grammar setup g h same bytes o u (refused b m q l r x e t p) (built c k s' q' l' r' t' p') =
+      let lexicon = one_lexicon c m k (subst (λ z. notation.reads_lexicon N z m) (bytes_one bytes b c q q') r) r' in
+      absurd (no_refusal h k x e s' t' (subst (λ z. notation.refuses N z k x e) same (subst (λ z. notation.refuses N g z x e) lexicon t)))
+  after_grammar setup g h same bytes o u (built b m s q l r t p) (absent q' p') = cc
+  after_grammar setup g h same bytes o u (built b m s q l r t p) (long c q' l' p') = let e = ap length (bytes_one bytes b c q q') in absurd (omega (arith, l, l'))
+  after_grammar setup g h same bytes o u (built b m s q l r t p) (fault c q' l' y t' p') =
+      absurd (no_lexicon_fault c y m (subst (λ z. notation.reads_lexicon N z m) (bytes_one bytes b c q q') r) t')
+  after_grammar setup g h same bytes o u (built b m s q l r t p) (refused c k q' l' r' y f t' p') =
+      let lexicon = one_lexicon c m k (subst (λ z. notation.reads_lexicon N z m) (bytes_one bytes b c q q') r) r' in
+      absurd (no_refusal h k y f s (subst (λ z. notation.builds N z k s) same (subst (λ z. notation.builds N g z s) lexicon t)) t')
+  after_grammar setup g h same bytes o u (built b m s q l r t p) (built c k s' q' l' r' t' p') =
+      let lexicon = one_lexicon c m k (subst (λ z. notation.reads_lexicon N z m) (bytes_one bytes b c q q') r) r' in
+      p ∙ (ap (λ z. Session z (first_state setup)) (one_build h k s s' (subst (λ z. notation.builds N z k s) same (subst (λ z. notation.builds N g z s) lexicon t)) t') ∙ sym p')
+
+  after_words : (setup : Setup) (files : List ℕ → Option (List ℕ)) (o u : Opening) → AfterWords notation N setup files o → AfterWords notation N setup files u → o ≡ u
+  after_words setup files o u (absent q p) (absent q' p') = p ∙ sym p'
+  after_words setup files o u (absent q p) (long c q' l' p') = cc
+  after_words setup files o u (absent q p) (fault c q' l' y t' p') = cc
+  after_words setup files o u (absent q p) (read c h q' l' r' t') = cc
+  after_words setup files o u (long b q l p) (absent q' p') = cc
+  after_words setup files o u (long b q l p) (long c q' l' p') = p ∙ sym p'
+  after_words setup files o u (long b q l p) (fault c q' l' y t' p') = let e = ap length (bytes_one (files setup.grammar) b c q q') in absurd (omega (arith, l, l'))
+  after_words setup files o u (long b q l p) (read c h q' l' r' t') = let e = ap length (bytes_one (files setup.grammar) b c q q') in absurd (omega (arith, l, l'))
+  after_words setup files o u (fault b q l x t p) (absent q' p') = cc
+  after_words setup files o u (fault b q l x t p) (long c q' l' p') = let e = ap length (bytes_one (files setup.grammar) b c q q') in absurd (omega (arith, l, l'))
+  after_words setup files o u (fault b q l x t p) (fault c q' l' y t' p') =
+      p ∙ (ap (λ z. Refusal z BadGrammar) (one_grammar_fault c x y (subst (λ z. notation.grammar_fault N z x) (bytes_one (files setup.grammar) b c q q') t) t') ∙ sym p')
+  after_words setup files o u (fault b q l x t p) (read c h q' l' r' t') =
+      absurd (no_grammar_fault c x h r' (subst (λ z. notation.grammar_fault N z x) (bytes_one (files setup.grammar) b c q q') t))
+  after_words setup files o u (read b g q l r t) (absent q' p') = cc
+  after_words setup files o u (read b g q l r t) (long c q' l' p') = let e = ap length (bytes_one (files setup.grammar) b c q q') in absurd (omega (arith, l, l'))
+  after_words setup files o u (read b g q l r t) (fault c q' l' y t' p') =
+      absurd (no_grammar_fault c y g (subst (λ z. notation.reads_grammar N z g) (bytes_one (files setup.grammar) b c q q') r) t')
+  after_words setup files o u (read b g q l r t) (read c h q' l' r' t') =
+      let same = one_grammar c g h (subst (λ z. notation.reads_grammar N z g) (bytes_one (files setup.grammar) b c q q') r) r' in
+      after_grammar setup g h same (files setup.lexicon) o u t t'
+
+  pub one_opening : (words : List (List ℕ)) (files : List ℕ → Option (List ℕ)) (o u : Opening) → IsOpening notation N words files o → IsOpening notation N words files u → o ≡ u
+  one_opening words files o u (inl h) (inl k) = h.1 ∙ sym k.1
+  one_opening words files o u (inl h) (inr k) = let e = h.0 in let f = k.1 in cc
+  one_opening words files o u (inr h) (inl k) = let e = h.1 in let f = k.0 in cc
+  one_opening words files o u (inr h) (inr k) =
+      let e = some_inj h.0 k.0 (sym h.1 ∙ k.1) in
+      after_words k.0 files o u (subst (λ z. AfterWords notation N z files o) e h.2) k.2
+
+-- ---- the first notations
+
+whole_text : (b : List ℕ) (n : ℕ) → IsUtf8 b → StopsUtf8 b n → ⊥
+whole_text b n u s = s.2 (length b) s.0 (omega arith) (subst IsUtf8 (sym (take-length b)) u)
+
+one_stop : (b : List ℕ) (n m : ℕ) → StopsUtf8 b n → StopsUtf8 b m → n ≡ m
+one_stop b n m s t = go (nat_lt n m) refl (nat_lt m n) refl
+  where
+    go : (x : Bool) → nat_lt n m ≡ x → (y : Bool) → nat_lt m n ≡ y → n ≡ m
+    go true e y f = let l = t.0 in absurd (s.2 m (ltb-true n m e) (omega arith) t.1)
+    go false e true f = let l = s.0 in absurd (t.2 n (ltb-true m n f) (omega arith) s.1)
+    go false e false f = let l = ltb-false n m e in let k = ltb-false m n f in omega arith
+
+one_rules : (b : List ℕ) (g h : List PlainRule) → ReadsRules b g → ReadsRules b h → g ≡ h
+one_rules b g h r s =
+    let e : Ok r.1 ≡ Ok s.1 = sym r.2 ∙ s.2 in
+    let f : r.1 ≡ s.1 = cc in
+    let t : Got g [] ≡ Got h [] = sym r.3 ∙ (ap rules f ∙ s.3) in
+    cc
+
+no_rules_fault : (b x : List ℕ) (g : List PlainRule) → ReadsRules b g → RulesFault b x → ⊥
+no_rules_fault b x g r f = go f.0 f.1
+  where
+    go : (t : RulesTrouble) → RefusesRules b t → ⊥
+    go (RulesTrouble.NotText n) h = whole_text b n r.0 h
+    go (RulesTrouble.BadToken p) h = let e = sym r.2 ∙ h.1 in cc
+    go (RulesTrouble.NotBuilt p) h = 
+        let e : Ok r.1 ≡ Ok h.1 = sym r.2 ∙ h.3 in
+        let f : r.1 ≡ h.1 = cc in
+        let t = sym r.3 ∙ (ap rules f ∙ h.4) in
+        cc
+
+one_rules_fault : (b x y : List ℕ) → RulesFault b x → RulesFault b y → x ≡ y
+one_rules_fault b x y f g = ?
+
+one_entries : (b : List ℕ) (l k : List PlainEntry) → ReadsEntries b l → ReadsEntries b k → l ≡ k
+one_entries b l k r s = let e : Entries l ≡ Entries k = sym r.1 ∙ s.1 in cc
+
+no_entries_fault : (b x : List ℕ) (l : List PlainEntry) → ReadsEntries b l → EntriesFault b x → ⊥
+no_entries_fault b x l r f = ?
+
+one_entries_fault : (b x y : List ℕ) → EntriesFault b x → EntriesFault b y → x ≡ y
+one_entries_fault b x y f g = ?
+
+pub openings_are_one : (N : Numbering) (words : List (List ℕ)) (files : List ℕ → Option (List ℕ)) (o u : Opening) → IsOpening first_pass N words files o → IsOpening first_pass N words files u → o ≡ u
+openings_are_one N = one_opening first_pass N one_rules one_rules_fault no_rules_fault one_entries one_entries_fault no_entries_fault
+    (λ g l x y e f r t. absurd r) (λ g l x e s b r. r) (λ g l s s' b c. b ∙ sym c)
+
+session_one : (s : Grounds) (st : State) (input x y : List ℕ) (e f : Ending) → IsSession first_pass s st input x e → IsSession first_pass s st input y f → (x ≡ y) × (e ≡ f)
+session_one s st input x y e f h k = ?
+
+pub runs_are_one : (N X : Numbering) (words : List (List ℕ)) (files : List ℕ → Option (List ℕ)) (input x y : List ℕ) (e f : Ending)
+    → IsOut first_pass N words files input x e → IsOut first_pass X words files input y f → (x ≡ y) × (e ≡ f)
+runs_are_one N X words files input x y e f h k = ?
