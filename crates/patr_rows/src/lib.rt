@@ -1,0 +1,9 @@
+//! Worked examples over the whole: words, files, an input, and what a run writes.
+#![tactic(auto)]
+
+#[cfg(test)]
+mod devices;
+#[cfg(test)]
+mod faults;
+#[cfg(test)]
+mod rows;
