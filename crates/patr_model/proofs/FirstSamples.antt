@@ -1,10 +1,9 @@
 -- Grammars and lexicons of the first notations, read and refused.
-use Rattle.std.proofs.Common.{◌≡◌, ℕ, zero, suc, List, [], ◌∷◌, ◌++◌, length, Ok, Err, codes, refl}
+use Rattle.std.proofs.Common.{◌≡◌, ℕ, zero, suc, List, [], ◌∷◌, ◌++◌, Ok, Err, codes, refl}
 use Rattle.std.specs.Fmt.{digits}
 use Rattle.patr_model.specs.declared.front.Kind.TheVariants.{Less, Greater, Equal, Arrow, Word}
-use Rattle.patr_model.specs.Session.{line}
 use Rattle.patr_model.specs.Tokens.{Place, Token, Scanned, after, start_place, word_len, scan, tokens_of}
-use Rattle.patr_model.specs.FirstPass.{Parse, Got, Stops, PlainRule, PlainEntry, symbols, rule, more_rules, rules, stop, without_index, ReadsRules, RulesTrouble, RefusesRules, rules_line, RulesFault, Entries, StopsAtLine, EntriesRead, entries, lexicon_lines, ReadsEntries, RefusesEntries, EntriesTrouble, entries_line, EntriesFault}
+use Rattle.patr_model.specs.FirstPass.{Parse, Got, Stops, PlainRule, PlainEntry, symbols, rule, more_rules, rules, stop, without_index, RulesTrouble, RulesFault, Entries, StopsAtLine, EntriesRead, entries, lexicon_lines, EntriesTrouble, EntriesFault}
 use Rattle.patr_model.proofs.Tokens.{token}
 
 -- ---- grammars
@@ -81,7 +80,7 @@ most_symbols : outcome (codes "Rule S ->" ++ letters 32) ≡ Reads (record { lin
 unfolding scan word_len symbols rule more_rules
 most_symbols = refl
 
--- the 33rd symbol stands at column 10 + 2 * 32 + 1
+-- the 33rd symbol stands at column 9 + 2 * 33
 too_many_symbols : outcome (codes "Rule S ->" ++ letters 33) ≡ NotYet (at 1 75)
 unfolding scan word_len symbols rule more_rules
 too_many_symbols = refl

@@ -1,5 +1,5 @@
 -- A numbering for each table: the table's texts by their places, and the others, behind them, by a number that has its text back.
-use Rattle.std.proofs.Common.{◌≡◌, ℕ, zero, suc, Bool, true, false, cond, List, [], ◌∷◌, slice_get, Some, refl, sym, ap, ◌∙◌, arith}
+use Rattle.std.proofs.Common.{◌≡◌, ℕ, zero, suc, Bool, true, false, cond, List, [], ◌∷◌, Some, refl, sym, ap, ◌∙◌, arith}
 use Rattle.patr_model.specs.Session.{Numbering, AgreesWith}
 use Rattle.patr_model.specs.Reading.{is_same}
 use Rattle.patr_model.specs.Table.{IsTable}

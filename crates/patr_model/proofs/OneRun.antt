@@ -1,12 +1,10 @@
 -- The words and the files of a run come to one opening, and a run has one text and one ending.
-use Rattle.std.proofs.Common.{◌≡◌, inl, inr, ℕ, ◌+◌, ◌<◌, ◌≤◌, Bool, List, [], ◌∷◌, ◌++◌, length, take, Option, Some, None, Ok, Err, refl, sym, ap, ◌∙◌, subst, arith, IsUtf8, nat_lt, ltb-true, ltb-false, true, false, true≢false, codes, ◌^◌}
+use Rattle.std.proofs.Common.{◌≡◌, inl, inr, ℕ, Bool, List, [], ◌++◌, length, take, Option, Some, Ok, Err, refl, sym, ap, ◌∙◌, subst, arith, IsUtf8, nat_lt, ltb-true, ltb-false, true, false, true≢false, codes, ◌^◌}
 use Rattle.std.proofs.Math.Seq.{take-length}
-use Rattle.patr_model.specs.Plain.{plain}
 use Rattle.patr_model.specs.Session.{Numbering, Grounds, State, Command, Replied, line, lines_of, whole_lines_of}
-use Rattle.patr_model.specs.Run.{Ending, Setup, Notations, Opening, Session, Refusal, BadGrammar, BadLexicon, Done, InputTooLong, first_state, IsSession, ended, quit, too_long, AfterGrammar, absent, long, fault, refused, built, AfterWords, read, IsOpening, Follows, IsOut}
-use Rattle.patr_model.specs.Tokens.{Place, Token, after, start_place, tokens_of}
-use Rattle.patr_model.specs.FirstPass.{PlainRule, PlainEntry, Got, Stops, rules, StopsUtf8, ReadsRules, RulesTrouble, RefusesRules, rules_line, RulesFault, lexicon_lines, entries, Entries, StopsAtLine, ReadsEntries, EntriesTrouble, RefusesEntries, entries_line, EntriesFault, stop, first_pass, sentences_alone}
-use Rattle.patr_model.specs.Laws.{LeastTextsAreOne}
+use Rattle.patr_model.specs.Run.{Ending, Setup, Notations, Opening, Session, Refusal, BadGrammar, BadLexicon, first_state, IsSession, ended, quit, too_long, AfterGrammar, absent, long, fault, refused, built, AfterWords, read, IsOpening, Follows, IsOut}
+use Rattle.patr_model.specs.Tokens.{after, start_place}
+use Rattle.patr_model.specs.FirstPass.{PlainRule, PlainEntry, Got, Stops, rules, StopsUtf8, ReadsRules, RulesTrouble, RefusesRules, rules_line, RulesFault, Entries, StopsAtLine, ReadsEntries, EntriesTrouble, RefusesEntries, entries_line, EntriesFault, stop, first_pass}
 use Rattle.patr_model.proofs.Maps.{some_inj}
 use Rattle.patr_model.proofs.Canonical.{least_texts}
 use Rattle.patr_model.proofs.RenamedRuns.{one_session, first_pass_same}

@@ -2,7 +2,7 @@
 use Rattle.std.specs.Prelude.{◌≡◌, ℕ, List, [], ◌∷◌, ◌++◌, Bool, Option}
 use Rattle.patr_model.specs.Plain.{plain}
 use Rattle.patr_model.specs.Session.{Numbering, AgreesWith, Grounds, State, LineForms, Judge, IsQuit, IsLineReply, Replied}
-use Rattle.patr_model.specs.Run.{Ending, Opening, IsOpening, IsSession, IsOut}
+use Rattle.patr_model.specs.Run.{Ending, Opening, IsOpening, IsOut}
 use Rattle.patr_model.specs.FirstPass.{first_pass, sentences_alone}
 use Rattle.patr_model.specs.Table.{IsTable}
 

@@ -1,7 +1,7 @@
 -- The tokens of a text, with their places: what stands at the front of the bytes, and then what stands behind it.
 --     front bytes            what stands at the front, and how many bytes it has
 --     scan skip at p bytes   the tokens of the bytes, or the place of the first character that is refused
-use Rattle.std.specs.Prelude.{◌≡◌, ℕ, zero, suc, ◌+◌, ◌-◌, List, [], ◌∷◌, take, Bool, true, false, cond, not, ◌&&◌, ◌||◌, nat_eq, nat_lt, Option, Some, None, Result, Ok, Err}
+use Rattle.std.specs.Prelude.{ℕ, zero, suc, ◌+◌, ◌-◌, List, [], ◌∷◌, take, Bool, false, cond, not, ◌&&◌, ◌||◌, nat_eq, nat_lt, Option, Some, None, Result, Ok, Err}
 use Rattle.std.specs.List.{prefix_len}
 use Rattle.patr_model.specs.declared.front.Kind.{Kind}
 use Rattle.patr_model.specs.declared.front.Kind.TheVariants.{Less, Greater, Equal, OpenBrace, CloseBrace, OpenParen, CloseParen, OpenBracket, CloseBracket, Slash, Colon, Dot, Arrow, Word}
