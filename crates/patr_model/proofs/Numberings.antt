@@ -1,5 +1,5 @@
 -- A numbering for each table: the table's texts by their places, and the others, behind them, by a number that has its text back.
-use Rattle.std.proofs.Common.{◌≡◌, ℕ, zero, suc, Bool, true, false, cond, List, [], ◌∷◌, slice_get, Some, refl, sym, ap, ◌∙◌, arith}
+use Rattle.std.proofs.Common.{◌≡◌, ℕ, zero, suc, Bool, true, false, cond, List, [], ◌∷◌, Some, refl, sym, ap, ◌∙◌, arith}
 use Rattle.patr_model.specs.Session.{Numbering, AgreesWith}
 use Rattle.patr_model.specs.Reading.{is_same}
 use Rattle.patr_model.specs.Table.{IsTable}
@@ -45,18 +45,15 @@ next_one_more : (xs : List ℕ) → next (one_more (next xs)) ≡ 0 ∷ next xs
 next_one_more xs = let h = has_head xs in ap (λ l. next (one_more l)) h.2 ∙ ap (λ l. 0 ∷ l) (sym h.2)
 
 -- the lists at odd places, and at even ones
-mutual
-  odd : (n : ℕ) → counted (suc (twice n)) ≡ 0 ∷ counted n
-  odd zero = refl
-  odd (suc n) = ap next (even n) ∙ next_one_more (counted n)
-
-  even : (n : ℕ) → counted (twice (suc n)) ≡ one_more (counted (suc n))
-  even zero = refl
-  even (suc n) = ap next (odd (suc n))
+odd_even : (n : ℕ) → (counted (suc (twice n)) ≡ 0 ∷ counted n) × (counted (twice (suc n)) ≡ one_more (counted (suc n)))
+odd_even zero = (refl, refl)
+odd_even (suc n) =
+    let odd = ap next (odd_even n).1 ∙ next_one_more (counted n) in
+    (odd, ap next odd)
 
 counted_times : (x n : ℕ) → (y : ℕ) × (times x (suc (twice n)) ≡ suc y) × (counted (suc y) ≡ x ∷ counted n)
-counted_times zero n = (twice n, refl, odd n)
-counted_times (suc x) n = let h = counted_times x n in (suc (twice h.0), ap twice h.1, even h.0 ∙ ap one_more h.2)
+counted_times zero n = (twice n, refl, (odd_even n).0)
+counted_times (suc x) n = let h = counted_times x n in (suc (twice h.0), ap twice h.1, (odd_even h.0).1 ∙ ap one_more h.2)
 
 counted_back : (xs : List ℕ) → counted (count_of xs) ≡ xs
 counted_back [] = refl
@@ -75,11 +72,11 @@ text_at (t ∷ ts) (suc n) = text_at ts n
 
 text_back : (table : List (List ℕ)) (text : List ℕ) → text_at table (table_place table text) ≡ text
 text_back [] text = counted_back text
-text_back (t ∷ ts) text = go (is_same t text) refl
+text_back (t ∷ ts) text = go (is_same t text) refl (text_back ts text)
   where
-    go : (b : Bool) → is_same t text ≡ b → text_at (t ∷ ts) (cond b 0 (suc (table_place ts text))) ≡ text
-    go true q = same_is t text q
-    go false q = text_back ts text
+    go : (b : Bool) → is_same t text ≡ b → text_at ts (table_place ts text) ≡ text → text_at (t ∷ ts) (cond b 0 (suc (table_place ts text))) ≡ text
+    go true q rest = same_is t text q
+    go false q rest = rest
 
 abbrev numbered : List (List ℕ) → Numbering
 numbered table = record { number = table_place table; text = text_at table; back = text_back table }
@@ -90,11 +87,11 @@ rest_is_table t ts is i j u e f = let s = is (suc i) (suc j) u e f in omega arit
 at_its_place : (table : List (List ℕ)) → IsTable table → AgreesWith (numbered table) table
 at_its_place [] is i text e = cc
 at_its_place (t ∷ ts) is zero text e = ap (λ b. cond b 0 (suc (table_place ts text))) (ap (λ u. is_same u text) (some_inj t text e) ∙ same_true text)
-at_its_place (t ∷ ts) is (suc i) text e = go (is_same t text) refl
+at_its_place (t ∷ ts) is (suc i) text e = go (is_same t text) refl (at_its_place ts (rest_is_table t ts is) i text e)
   where
-    go : (b : Bool) → is_same t text ≡ b → cond b 0 (suc (table_place ts text)) ≡ suc i
-    go true q = absurd (let s = is 0 (suc i) text (ap Some (same_is t text q)) e in omega arith)
-    go false q = ap suc (at_its_place ts (rest_is_table t ts is) i text e)
+    go : (b : Bool) → is_same t text ≡ b → table_place ts text ≡ i → cond b 0 (suc (table_place ts text)) ≡ suc i
+    go true q rest = absurd (let s = is 0 (suc i) text (ap Some (same_is t text q)) e in omega arith)
+    go false q rest = ap suc rest
 
 pub tables_are_numbered : (table : List (List ℕ)) → IsTable table → (N : Numbering) × AgreesWith N table
 tables_are_numbered table is = (numbered table, at_its_place table is)

@@ -1,12 +1,10 @@
 -- The words and the files of a run come to one opening, and a run has one text and one ending.
-use Rattle.std.proofs.Common.{◌≡◌, inl, inr, ℕ, ◌+◌, ◌<◌, ◌≤◌, Bool, List, [], ◌∷◌, ◌++◌, length, take, Option, Some, None, Ok, Err, refl, sym, ap, ◌∙◌, subst, arith, IsUtf8, nat_lt, ltb-true, ltb-false, true, false}
+use Rattle.std.proofs.Common.{◌≡◌, inl, inr, ℕ, Bool, List, [], ◌++◌, length, take, Option, Some, Ok, Err, refl, sym, ap, ◌∙◌, subst, arith, IsUtf8, nat_lt, ltb-true, ltb-false, true, false, true≢false, codes, ◌^◌}
 use Rattle.std.proofs.Math.Seq.{take-length}
-use Rattle.patr_model.specs.Plain.{plain}
-use Rattle.patr_model.specs.Session.{Numbering, Grounds, State, Command, LineForms, Judge, Replied, line}
-use Rattle.patr_model.specs.Run.{Ending, Setup, Notations, Opening, Session, first_state, IsSession, ended, quit, too_long, AfterGrammar, absent, long, fault, refused, built, AfterWords, read, IsOpening, Follows, IsOut}
-use Rattle.patr_model.specs.Tokens.{Place, Token, tokens_of}
-use Rattle.patr_model.specs.FirstPass.{PlainRule, PlainEntry, Got, Stops, rules, StopsUtf8, ReadsRules, RulesTrouble, RefusesRules, rules_line, RulesFault, lexicon_lines, entries, Entries, StopsAtLine, ReadsEntries, EntriesTrouble, RefusesEntries, entries_line, EntriesFault, stop, first_pass, sentences_alone}
-use Rattle.patr_model.specs.Laws.{LeastTextsAreOne}
+use Rattle.patr_model.specs.Session.{Numbering, Grounds, State, Command, Replied, line, lines_of, whole_lines_of}
+use Rattle.patr_model.specs.Run.{Ending, Setup, Notations, Opening, Session, Refusal, BadGrammar, BadLexicon, first_state, IsSession, ended, quit, too_long, AfterGrammar, absent, long, fault, refused, built, AfterWords, read, IsOpening, Follows, IsOut}
+use Rattle.patr_model.specs.Tokens.{after, start_place}
+use Rattle.patr_model.specs.FirstPass.{PlainRule, PlainEntry, Got, Stops, rules, StopsUtf8, ReadsRules, RulesTrouble, RefusesRules, rules_line, RulesFault, Entries, StopsAtLine, ReadsEntries, EntriesTrouble, RefusesEntries, entries_line, EntriesFault, stop, first_pass}
 use Rattle.patr_model.proofs.Maps.{some_inj}
 use Rattle.patr_model.proofs.Canonical.{least_texts}
 use Rattle.patr_model.proofs.RenamedRuns.{one_session, first_pass_same}
@@ -123,31 +121,79 @@ no_rules_fault b x g r f = go f.0 f.1
     go : (t : RulesTrouble) → RefusesRules b t → ⊥
     go (RulesTrouble.NotText n) h = whole_text b n r.0 h
     go (RulesTrouble.BadToken p) h = let e = sym r.2 ∙ h.1 in cc
-    go (RulesTrouble.NotBuilt p) h = 
+    go (RulesTrouble.NotBuilt p) h =
         let e : Ok r.1 ≡ Ok h.1 = sym r.2 ∙ h.3 in
         let f : r.1 ≡ h.1 = cc in
         let t = sym r.3 ∙ (ap rules f ∙ h.4) in
         cc
 
 one_rules_fault : (b x y : List ℕ) → RulesFault b x → RulesFault b y → x ≡ y
-one_rules_fault b x y f g = ?
+one_rules_fault b x y f g = f.2 ∙ (ap rules_line (go f.0 g.0 f.1 g.1) ∙ sym g.2)
+  where
+    go : (t u : RulesTrouble) → RefusesRules b t → RefusesRules b u → t ≡ u
+    go (RulesTrouble.NotText n) (RulesTrouble.NotText m) h k = ap (λ z. RulesTrouble.NotText z) (one_stop b n m h k)
+    go (RulesTrouble.NotText n) (RulesTrouble.BadToken q) h k = absurd (whole_text b n k.0 h)
+    go (RulesTrouble.NotText n) (RulesTrouble.NotBuilt q) h k = absurd (whole_text b n k.0 h)
+    go (RulesTrouble.BadToken p) (RulesTrouble.NotText m) h k = absurd (whole_text b m h.0 k)
+    go (RulesTrouble.BadToken p) (RulesTrouble.BadToken q) h k = let e : Err p ≡ Err q = sym h.1 ∙ k.1 in cc
+    go (RulesTrouble.BadToken p) (RulesTrouble.NotBuilt q) h k = let e = sym h.1 ∙ k.3 in cc
+    go (RulesTrouble.NotBuilt p) (RulesTrouble.NotText m) h k = absurd (whole_text b m h.0 k)
+    go (RulesTrouble.NotBuilt p) (RulesTrouble.BadToken q) h k = let e = sym h.3 ∙ k.1 in cc
+    go (RulesTrouble.NotBuilt p) (RulesTrouble.NotBuilt q) h k =
+        let e : Ok h.1 ≡ Ok k.1 = sym h.3 ∙ k.3 in
+        let f : h.1 ≡ k.1 = cc in
+        let t : Stops h.2 ≡ Stops k.2 = sym h.4 ∙ (ap rules f ∙ k.4) in
+        let r : h.2 ≡ k.2 = cc in
+        ap (λ z. RulesTrouble.NotBuilt z) (h.5 ∙ (ap (stop (after start_place b)) r ∙ sym k.5))
 
 one_entries : (b : List ℕ) (l k : List PlainEntry) → ReadsEntries b l → ReadsEntries b k → l ≡ k
 one_entries b l k r s = let e : Entries l ≡ Entries k = sym r.1 ∙ s.1 in cc
 
 no_entries_fault : (b x : List ℕ) (l : List PlainEntry) → ReadsEntries b l → EntriesFault b x → ⊥
-no_entries_fault b x l r f = ?
+no_entries_fault b x l r f = go f.0 f.1
+  where
+    go : (t : EntriesTrouble) → RefusesEntries b t → ⊥
+    go (EntriesTrouble.NotText n) h = whole_text b n r.0 h
+    go (EntriesTrouble.NotBuilt k) h = let e = sym r.1 ∙ h.1 in cc
 
 one_entries_fault : (b x y : List ℕ) → EntriesFault b x → EntriesFault b y → x ≡ y
-one_entries_fault b x y f g = ?
+one_entries_fault b x y f g = f.2 ∙ (ap entries_line (go f.0 g.0 f.1 g.1) ∙ sym g.2)
+  where
+    go : (t u : EntriesTrouble) → RefusesEntries b t → RefusesEntries b u → t ≡ u
+    go (EntriesTrouble.NotText n) (EntriesTrouble.NotText m) h k = ap (λ z. EntriesTrouble.NotText z) (one_stop b n m h k)
+    go (EntriesTrouble.NotText n) (EntriesTrouble.NotBuilt j) h k = absurd (whole_text b n k.0 h)
+    go (EntriesTrouble.NotBuilt i) (EntriesTrouble.NotText m) h k = absurd (whole_text b m h.0 k)
+    go (EntriesTrouble.NotBuilt i) (EntriesTrouble.NotBuilt j) h k = let e : StopsAtLine i ≡ StopsAtLine j = sym h.1 ∙ k.1 in cc
 
 pub openings_are_one : (N : Numbering) (words : List (List ℕ)) (files : List ℕ → Option (List ℕ)) (o u : Opening) → IsOpening first_pass N words files o → IsOpening first_pass N words files u → o ≡ u
 openings_are_one N = one_opening first_pass N one_rules one_rules_fault no_rules_fault one_entries one_entries_fault no_entries_fault
     (λ g l x y e f r t. absurd r) (λ g l x e s b r. r) (λ g l s s' b c. b ∙ sym c)
 
-session_one : (s : Grounds) (st : State) (input x y : List ℕ) (e f : Ending) → IsSession first_pass s st input x e → IsSession first_pass s st input y f → (x ≡ y) × (e ≡ f)
-session_one s st input x y e f h k = ?
+-- ---- the session
+
+module _ (notation : Notations) (s : Grounds) (one_more : (st : State) (c : Command) (x y : List ℕ) → notation.lines.more s st c x → notation.lines.more s st c y → x ≡ y) where
+  one_end : (st : State) (ls : List (List ℕ)) (x y : List ℕ) (q q' : Bool) → Replied notation.judge notation.lines s st ls x q → Replied notation.judge notation.lines s st ls y q' → (x ≡ y) × (q ≡ q')
+  one_end = one_session notation.judge notation.lines s (least_texts s) one_more
+
+  pub session_one : (st : State) (input x y : List ℕ) (e f : Ending) → IsSession notation s st input x e → IsSession notation s st input y f → (x ≡ y) × (e ≡ f)
+  session_one st input x y e f (ended l q r p) (ended l' q' r' p') = ((one_end st (lines_of input) x y q q' r r').0, p ∙ sym p')
+  session_one st input x y e f (ended l q r p) (quit l' r' p') = absurd (omega (arith, l, l'))
+  session_one st input x y e f (ended l q r p) (too_long l' b' r' t' p') = absurd (omega (arith, l, l'))
+  session_one st input x y e f (quit l r p) (ended l' q' r' p') = absurd (omega (arith, l, l'))
+  session_one st input x y e f (quit l r p) (quit l' r' p') = ((one_end st (whole_lines_of (take (2 ^ 24) input)) x y true true r r').0, p ∙ sym p')
+  session_one st input x y e f (quit l r p) (too_long l' b' r' t' p') = absurd (true≢false (one_end st (whole_lines_of (take (2 ^ 24) input)) x b' true false r r').1)
+  session_one st input x y e f (too_long l b r t p) (ended l' q' r' p') = absurd (omega (arith, l, l'))
+  session_one st input x y e f (too_long l b r t p) (quit l' r' p') = absurd (true≢false (sym (one_end st (whole_lines_of (take (2 ^ 24) input)) b y false true r r').1))
+  session_one st input x y e f (too_long l b r t p) (too_long l' b' r' t' p') =
+      (t ∙ (ap (λ z. z ++ line (codes "error: input longer than 16777216 bytes")) (one_end st (whole_lines_of (take (2 ^ 24) input)) b b' false false r r').0 ∙ sym t'), p ∙ sym p')
+
+follows_one : (o : Opening) (input x y : List ℕ) (e f : Ending) → Follows first_pass o input x e → Follows first_pass o input y f → (x ≡ y) × (e ≡ f)
+follows_one (Session s st) input x y e f h k = session_one first_pass s (λ st c x y m n. absurd m) st input x y e f h k
+follows_one (Refusal before end) input x y e f h k = (h.0 ∙ sym k.0, h.1 ∙ sym k.1)
 
 pub runs_are_one : (N X : Numbering) (words : List (List ℕ)) (files : List ℕ → Option (List ℕ)) (input x y : List ℕ) (e f : Ending)
     → IsOut first_pass N words files input x e → IsOut first_pass X words files input y f → (x ≡ y) × (e ≡ f)
-runs_are_one N X words files input x y e f h k = ?
+runs_are_one N X words files input x y e f h k =
+    let moved = first_pass_same N X words files input x e h in
+    let same = openings_are_one X words files moved.0 k.0 moved.1 k.1 in
+    follows_one k.0 input x y e f (subst (λ o. Follows first_pass o input x e) same moved.2) k.2

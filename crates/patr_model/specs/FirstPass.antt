@@ -5,7 +5,7 @@
 --     first_pass           all of it, as a run reads it
 use Rattle.std.specs.Prelude.{◌≡◌, ℕ, zero, suc, ◌+◌, ◌<◌, ◌≤◌, List, [], ◌∷◌, ◌++◌, map, length, take, Bool, true, false, cond, not, ◌&&◌, ◌||◌, nat_eq, nat_lt, nat_le, Option, Some, None, Ok, Err, IsUtf8, codes, decimal}
 use Rattle.patr_model.specs.declared.front.Kind.{Kind}
-use Rattle.patr_model.specs.declared.front.Kind.TheVariants.{Less, Greater, Equal, OpenBrace, CloseBrace, OpenParen, CloseParen, OpenBracket, CloseBracket, Slash, Colon, Dot, Arrow, Word}
+use Rattle.patr_model.specs.declared.front.Kind.TheVariants.{Arrow, Word}
 use Rattle.patr_model.specs.Derivation.{Rules}
 use Rattle.patr_model.specs.Plain.{plain}
 use Rattle.patr_model.specs.Session.{Numbering, Grounds, LineForms, same_text, line, cut_at, lines_by}
@@ -14,11 +14,12 @@ use Rattle.patr_model.specs.Run.{Setup, Notations}
 
 -- ---- the words of the command line
 
--- exactly two words, neither of which begins with `-`
+-- the word begins with `-`
 abbrev pub begins_with_dash : List ℕ → Bool
 begins_with_dash [] = false
 begins_with_dash (b ∷ bs) = nat_eq b 45
 
+-- exactly two words, neither of which begins with `-`
 abbrev pub two_words : List (List ℕ) → Option Setup
 two_words [] = None
 two_words (g ∷ []) = None
@@ -31,24 +32,29 @@ two_words (g ∷ l ∷ w ∷ ws) = None
 abbrev pub lower : ℕ → ℕ
 lower b = cond (nat_le 65 b && nat_le b 90) (b + 32) b
 
+-- the text is this keyword, whatever the case of its letters
 abbrev pub is_keyword : List ℕ → List ℕ → Bool
 is_keyword word text = same_text (map lower text) word
 
+-- the text is a keyword that begins a clause
 abbrev pub is_clause_word : List ℕ → Bool
 is_clause_word text = is_keyword (codes "rule") text || is_keyword (codes "let") text || is_keyword (codes "define") text || is_keyword (codes "parameter") text
 
+-- the kind Word
 abbrev pub is_word : Kind → Bool
 is_word Word = true
 is_word _ = false
 
+-- the kind Arrow
 abbrev pub is_arrow : Kind → Bool
 is_arrow Arrow = true
 is_arrow _ = false
 
--- the word that begins a rule, and a word that is no clause word
+-- the word that begins a rule
 abbrev pub is_rule_word : Token → Bool
 is_rule_word t = is_word t.kind && is_keyword (codes "rule") t.text
 
+-- a Word that is no keyword
 abbrev pub is_symbol : Token → Bool
 is_symbol t = is_word t.kind && not (is_clause_word t.text)
 
@@ -57,6 +63,7 @@ pub data Parse (X : Type 0) : Type 0 where
   Got : X → List Token → Parse X
   Stops : List Token → Parse X
 
+-- one reading, and then another over the tokens behind it
 infixl 10 ◌>>=◌
 abbrev pub ◌>>=◌ : {X Y : Type 0} → Parse X → (X → List Token → Parse Y) → Parse Y
 (Got x ts) >>= f = f x ts
@@ -67,6 +74,7 @@ abbrev pub one : (Token → Bool) → List Token → Parse Token
 one test [] = Stops []
 one test (t ∷ ts) = cond (test t) (Got t ts) (Stops (t ∷ ts))
 
+-- an Arrow
 abbrev pub is_arrow_token : Token → Bool
 is_arrow_token t = is_arrow t.kind
 
@@ -98,20 +106,23 @@ more_rules (suc n) (t ∷ ts) = rule (t ∷ ts) >>= λ r rest. more_rules n rest
 abbrev pub rules : List Token → Parse (List PlainRule)
 rules ts = rule ts >>= λ r rest. more_rules (length rest) rest >>= λ rs rest. Got (r ∷ rs) rest
 
--- a symbol's text without its index: a `_` and digits at the end, behind another character
+-- digits alone
 abbrev pub all_digits : List ℕ → Bool
 all_digits [] = true
 all_digits (b ∷ bs) = nat_le 48 b && nat_le b 57 && all_digits bs
 
+-- a `_` and digits, one at least
 abbrev pub is_index : List ℕ → Bool
 is_index [] = false
 is_index (b ∷ []) = false
 is_index (b ∷ c ∷ bs) = nat_eq b 95 && all_digits (c ∷ bs)
 
+-- what stands behind a symbol's first character, without an index at the end
 abbrev pub after_first : List ℕ → List ℕ
 after_first [] = []
 after_first (b ∷ bs) = cond (is_index (b ∷ bs)) [] (b ∷ after_first bs)
 
+-- a symbol's text without its index: a `_` and digits at the end, behind another character
 abbrev pub without_index : List ℕ → List ℕ
 without_index [] = []
 without_index (b ∷ bs) = b ∷ after_first bs
@@ -121,10 +132,11 @@ abbrev pub stop : Place → List Token → Place
 stop end [] = end
 stop end (t ∷ ts) = t.place
 
+-- the fault line of a file, with its place
 abbrev pub at_place : List ℕ → Place → List ℕ → List ℕ
 at_place file p what = line (codes "error: " ++ file ++ codes " " ++ decimal p.line ++ codes ":" ++ decimal p.column ++ codes ": " ++ what)
 
--- the length of the longest front that is UTF-8
+-- the bytes are not UTF-8, and this is the length of the longest front that is
 abbrev pub StopsUtf8 : List ℕ → ℕ → Type 0
 StopsUtf8 bytes n = (n < length bytes) × IsUtf8 (take n bytes) × ((k : ℕ) → n < k → k ≤ length bytes → IsUtf8 (take k bytes) → ⊥)
 
@@ -132,22 +144,25 @@ StopsUtf8 bytes n = (n < length bytes) × IsUtf8 (take n bytes) × ((k : ℕ) �
 abbrev pub ReadsRules : List ℕ → List PlainRule → Type 0
 ReadsRules bytes g = IsUtf8 bytes × (ts : List Token) × (tokens_of bytes ≡ Ok ts) × (rules ts ≡ Got g [])
 
--- the bytes stand for no rules, and why
+-- why bytes stand for no rules
 pub data RulesTrouble : Type 0 where
   NotText : ℕ → RulesTrouble
   BadToken : Place → RulesTrouble
   NotBuilt : Place → RulesTrouble
 
+-- the bytes stand for no rules, for this reason
 abbrev pub RefusesRules : List ℕ → RulesTrouble → Type 0
 RefusesRules bytes (NotText n) = StopsUtf8 bytes n
 RefusesRules bytes (BadToken p) = IsUtf8 bytes × (tokens_of bytes ≡ Err p)
 RefusesRules bytes (NotBuilt p) = IsUtf8 bytes × (ts rest : List Token) × (tokens_of bytes ≡ Ok ts) × (rules ts ≡ Stops rest) × (p ≡ stop (after start_place bytes) rest)
 
+-- the fault line of a grammar
 abbrev pub rules_line : RulesTrouble → List ℕ
 rules_line (NotText n) = line (codes "error: grammar: not UTF-8 at byte " ++ decimal n)
 rules_line (BadToken p) = at_place (codes "grammar") p (codes "bad character")
 rules_line (NotBuilt p) = at_place (codes "grammar") p (codes "not built yet")
 
+-- the bytes stand for no rules, and have this fault line
 abbrev pub RulesFault : List ℕ → List ℕ → Type 0
 RulesFault bytes text = (trouble : RulesTrouble) × RefusesRules bytes trouble × (text ≡ rules_line trouble)
 
@@ -177,6 +192,7 @@ pub data EntriesRead : Type 0 where
   Entries : List PlainEntry → EntriesRead
   StopsAtLine : ℕ → EntriesRead
 
+-- an entry before what is read behind it
 abbrev pub with_entry : PlainEntry → EntriesRead → EntriesRead
 with_entry e (Entries es) = Entries (e ∷ es)
 with_entry e (StopsAtLine k) = StopsAtLine k
@@ -197,19 +213,22 @@ entries n (a ∷ b ∷ ls) = read_pair n (field 119 a) (field 99 b) (entries (su
 abbrev pub ReadsEntries : List ℕ → List PlainEntry → Type 0
 ReadsEntries bytes l = IsUtf8 bytes × (entries 1 (lexicon_lines bytes) ≡ Entries l)
 
--- the bytes stand for no entries, and why
+-- why bytes stand for no entries
 pub data EntriesTrouble : Type 0 where
   NotText : ℕ → EntriesTrouble
   NotBuilt : ℕ → EntriesTrouble
 
+-- the bytes stand for no entries, for this reason
 abbrev pub RefusesEntries : List ℕ → EntriesTrouble → Type 0
 RefusesEntries bytes (NotText n) = StopsUtf8 bytes n
 RefusesEntries bytes (NotBuilt k) = IsUtf8 bytes × (entries 1 (lexicon_lines bytes) ≡ StopsAtLine k)
 
+-- the fault line of a lexicon
 abbrev pub entries_line : EntriesTrouble → List ℕ
 entries_line (NotText n) = line (codes "error: lexicon: not UTF-8 at byte " ++ decimal n)
 entries_line (NotBuilt k) = at_place (codes "lexicon") (record { line = k; column = 1 }) (codes "not built yet")
 
+-- the bytes stand for no entries, and have this fault line
 abbrev pub EntriesFault : List ℕ → List ℕ → Type 0
 EntriesFault bytes text = (trouble : EntriesTrouble) × RefusesEntries bytes trouble × (text ≡ entries_line trouble)
 
@@ -224,6 +243,7 @@ abbrev pub start_text : List PlainRule → List ℕ
 start_text [] = []
 start_text (r ∷ rs) = without_index r.mother
 
+-- the rules and the entries with one variant each, and no equations
 abbrev pub plain_rules : Numbering → List PlainRule → List PlainEntry → Rules
 plain_rules N g l = record {
   rules = map (λ r. record { categories = categories N r; equations = [] } ∷ []) g;
@@ -238,13 +258,15 @@ plain_grounds N g l = record { names = N; rules = plain_rules N g l; order = [] 
 
 -- ---- the session
 
--- Sentences alone: every other line is a bad command.
+-- the reply to a line that is no command
 abbrev pub bad_command : List ℕ
 bad_command = line (codes "error: bad command")
 
+-- Sentences alone: every other line is a bad command.
 abbrev pub sentences_alone : LineForms
 sentences_alone = record { too_long = bad_command; not_text = bad_command; command = λ ws. None; more = λ s st c text. ⊥ }
 
+-- The notations that are built, as a run reads them.
 abbrev pub first_pass : Notations
 first_pass = record {
   grammar_text = List PlainRule;

@@ -2,7 +2,7 @@
 use Rattle.std.specs.Prelude.{◌≡◌, ℕ, List, [], ◌∷◌, ◌++◌, Bool, Option}
 use Rattle.patr_model.specs.Plain.{plain}
 use Rattle.patr_model.specs.Session.{Numbering, AgreesWith, Grounds, State, LineForms, Judge, IsQuit, IsLineReply, Replied}
-use Rattle.patr_model.specs.Run.{Ending, Opening, IsOpening, IsSession, IsOut}
+use Rattle.patr_model.specs.Run.{Ending, Opening, IsOpening, IsOut}
 use Rattle.patr_model.specs.FirstPass.{first_pass, sentences_alone}
 use Rattle.patr_model.specs.Table.{IsTable}
 
@@ -29,6 +29,7 @@ pub record RepliesBegin (judge : Judge) (forms : LineForms) (s : Grounds) : Type
   pub goes_on : (st end : State) (ls rest : List (List ℕ)) (before after : List ℕ) (quit : Bool) → Answered judge forms s st ls before end → Replied judge forms s end rest after quit
       → Replied judge forms s st (ls ++ rest) (before ++ after) quit
 
+-- so it is where sentences alone are read
 abbrev pub SentenceRepliesBegin : Type 0
 SentenceRepliesBegin = (s : Grounds) → RepliesBegin (λ g cat. plain g) sentences_alone s
 

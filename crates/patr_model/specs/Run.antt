@@ -37,6 +37,7 @@ pub data Opening : Type 0 where
   Session : Grounds → State → Opening
   Refusal : List ℕ → Ending → Opening
 
+-- the line on words of another form
 abbrev pub usage : List ℕ
 usage = line (codes "usage: patr GRAMMAR LEXICON [--workers N] [--limit N]")
 
@@ -45,7 +46,7 @@ abbrev pub first_state : Setup → State
 first_state setup = record { limit = setup.limit; features = false; count = false }
 
 module _ (notation : Notations) where
-  -- the lexicon, the build and what it made
+  -- what a grammar that is read comes to, by the first that fits: the lexicon's load, its reading, the build
   pub data AfterGrammar (N : Numbering) (setup : Setup) (g : notation.grammar_text) (bytes : Option (List ℕ)) (opening : Opening) : Type 0 where
     absent : bytes ≡ None → opening ≡ Refusal [] NotRead → AfterGrammar N setup g bytes opening
     long : (b : List ℕ) → bytes ≡ Some b → 16777216 < length b → opening ≡ Refusal (line (codes "error: lexicon: more than 16777216 bytes")) BadLexicon → AfterGrammar N setup g bytes opening
@@ -55,7 +56,7 @@ module _ (notation : Notations) where
     built : (b : List ℕ) (l : notation.lexicon_text) (s : Grounds) → bytes ≡ Some b → length b ≤ 16777216 → notation.reads_lexicon N b l → notation.builds N g l s
         → opening ≡ Session s (first_state setup) → AfterGrammar N setup g bytes opening
 
-  -- by the first that fits: the grammar's load and its reading, the lexicon's, the build
+  -- what two names come to, by the first that fits: the grammar's load, its reading, and what it comes to
   pub data AfterWords (N : Numbering) (setup : Setup) (files : List ℕ → Option (List ℕ)) (opening : Opening) : Type 0 where
     absent : files setup.grammar ≡ None → opening ≡ Refusal [] NotRead → AfterWords N setup files opening
     long : (b : List ℕ) → files setup.grammar ≡ Some b → 4194304 < length b → opening ≡ Refusal (line (codes "error: grammar: more than 4194304 bytes")) BadGrammar → AfterWords N setup files opening
@@ -76,6 +77,7 @@ module _ (notation : Notations) where
     too_long : 2 ^ 24 < length input → (before : List ℕ) → Replied notation.judge notation.lines s st (whole_lines_of (take (2 ^ 24) input)) before false
         → text ≡ before ++ line (codes "error: input longer than 16777216 bytes") → ending ≡ InputTooLong → IsSession s st input text ending
 
+  -- what a run writes from its opening on, and how it ends
   abbrev pub Follows : Opening → List ℕ → List ℕ → Ending → Type 0
   Follows (Session s st) input text ending = IsSession s st input text ending
   Follows (Refusal before e) input text ending = (text ≡ before) × (ending ≡ e)

@@ -24,17 +24,21 @@ pub record Grounds : Type 0 where
   pub rules : Rules
   pub order : List ℕ
 
+-- the number of the attribute `cat`
 abbrev pub cat_of : Grounds → ℕ
 cat_of s = s.names.number (codes "cat")
 
+-- how symbols are printed and attributes are ordered
 abbrev pub look_of : Grounds → Look
 look_of s = record { text = s.names.text; order = s.order }
 
+-- what the commands of a session set: the limit on edges, and whether features and the number of edges are written
 pub record State : Type 0 where
   pub limit : ℕ
   pub features : Bool
   pub count : Bool
 
+-- two texts are the same, byte for byte
 abbrev pub same_text : List ℕ → List ℕ → Bool
 same_text [] [] = true
 same_text [] (y ∷ ys) = false
@@ -46,20 +50,24 @@ pub record Cut : Type 0 where
   pub first : List ℕ
   pub rest : List (List ℕ)
 
+-- a text cut at the bytes that pass the test
 abbrev pub cut_at : (ℕ → Bool) → List ℕ → Cut
 cut_at test [] = record { first = []; rest = [] }
 cut_at test (b ∷ bs) = cond (test b)
     (record { first = []; rest = (cut_at test bs).first ∷ (cut_at test bs).rest })
     (record { first = b ∷ (cut_at test bs).first; rest = (cut_at test bs).rest })
 
+-- the same pieces as a list
 abbrev pub pieces : (ℕ → Bool) → List ℕ → List (List ℕ)
 pieces test bytes = (cut_at test bytes).first ∷ (cut_at test bytes).rest
 
+-- the texts that are not empty
 abbrev pub without_empty : List (List ℕ) → List (List ℕ)
 without_empty [] = []
 without_empty ([] ∷ xs) = without_empty xs
 without_empty ((b ∷ bs) ∷ xs) = (b ∷ bs) ∷ without_empty xs
 
+-- a space or a tab
 abbrev pub is_blank : ℕ → Bool
 is_blank b = nat_eq b 32 || nat_eq b 9
 
@@ -78,6 +86,7 @@ abbrev pub lines_by : (List ℕ → List ℕ) → List ℕ → List (List ℕ) �
 lines_by trim first [] = without_empty (trim first ∷ [])
 lines_by trim first (next ∷ rest) = trim first ∷ lines_by trim next rest
 
+-- the lines of an input
 abbrev pub lines_of : List ℕ → List (List ℕ)
 lines_of input = lines_by without_cr (cut_at (nat_eq 10) input).first (cut_at (nat_eq 10) input).rest
 
@@ -86,9 +95,11 @@ abbrev pub whole_lines_from : List ℕ → List (List ℕ) → List (List ℕ)
 whole_lines_from first [] = []
 whole_lines_from first (next ∷ rest) = without_cr first ∷ whole_lines_from next rest
 
+-- the lines of an input that LF ends
 abbrev pub whole_lines_of : List ℕ → List (List ℕ)
 whole_lines_of input = whole_lines_from (cut_at (nat_eq 10) input).first (cut_at (nat_eq 10) input).rest
 
+-- a text and the LF that ends its line
 abbrev pub line : List ℕ → List ℕ
 line text = text ++ 10 ∷ []
 
@@ -100,13 +111,14 @@ IsKnown s w = (e k : ℕ) × (entry : EntryVariant) × (entry_variant s.rules e 
 abbrev pub IsFirstUnknown : Grounds → List (List ℕ) → ℕ → List ℕ → Type 0
 IsFirstUnknown s ws p w = (i : ℕ) × (p ≡ suc i) × (slice_get ws i ≡ Some w) × (IsKnown s w → ⊥) × ((j : ℕ) (v : List ℕ) → j < i → slice_get ws j ≡ Some v → IsKnown s v)
 
--- keys as lists, number by number
+-- one list of numbers stands before another, number by number; a shorter one before what it begins
 abbrev pub number_before : List ℕ → List ℕ → Type 0
 number_before [] [] = ⊥
 number_before [] (y ∷ ys) = Unit {0}
 number_before (x ∷ xs) [] = ⊥
 number_before (x ∷ xs) (y ∷ ys) = (x < y) ⊎ ((x ≡ y) × number_before xs ys)
 
+-- the numbers of a key, item by item
 abbrev pub numbers : List KeyItem → List ℕ
 numbers [] = []
 numbers (x ∷ xs) = x.kind ∷ x.number ∷ x.variant ∷ x.end ∷ numbers xs
@@ -117,13 +129,16 @@ Rises [] = Unit {0}
 Rises (t ∷ []) = Unit {0}
 Rises (t ∷ u ∷ ts) = number_before (numbers (key t)) (numbers (key u)) × Rises (u ∷ ts)
 
+-- an ASCII digit
 abbrev pub is_digit : ℕ → Bool
 is_digit b = nat_le 48 b && nat_le b 57
 
+-- the number that these digits spell behind the number so far; none where one is no digit
 abbrev pub digits_value : ℕ → List ℕ → Option ℕ
 digits_value n [] = Some n
 digits_value n (b ∷ bs) = cond (is_digit b) (digits_value (10 * n + (b - 48)) bs) None
 
+-- a number that is from 1 to the greatest
 abbrev pub within : ℕ → Option ℕ → Option ℕ
 within most None = None
 within most (Some n) = cond (nat_le 1 n && nat_le n most) (Some n) None
@@ -142,9 +157,11 @@ pub data Command : Type 0 where
   Make : ℕ → Command
   Quit : Command
 
+-- `on` or `off`
 abbrev pub switch : List ℕ → Option Bool
 switch w = cond (same_text w (codes "on")) (Some true) (cond (same_text w (codes "off")) (Some false) None)
 
+-- the command that two words spell
 abbrev pub command_of_two : List ℕ → List ℕ → Option Command
 command_of_two w v =
     cond (same_text w (codes ":limit")) (option_map (λ n. Limit n) (number_of 200000 v))
@@ -160,16 +177,18 @@ command_of (w ∷ []) = cond (same_text w (codes ":quit")) (Some Quit) (cond (sa
 command_of (w ∷ v ∷ []) = command_of_two w v
 command_of (w ∷ v ∷ u ∷ ws) = None
 
+-- the first word begins with `:`
 abbrev pub begins_with_colon : List (List ℕ) → Bool
 begins_with_colon [] = false
 begins_with_colon ([] ∷ ws) = false
 begins_with_colon ((b ∷ bs) ∷ ws) = nat_eq b 58
 
+-- a switch as it is written
 abbrev pub on_off : Bool → List ℕ
 on_off true = codes "on"
 on_off false = codes "off"
 
--- what is left of a line's reply to the commands that speak of the grammar
+-- replies to the commands that speak of the grammar
 abbrev pub Replies : Type 1
 Replies = Grounds → State → Command → List ℕ → Type 0
 
@@ -177,18 +196,21 @@ Replies = Grounds → State → Command → List ℕ → Type 0
 abbrev pub IsLeastText : Grounds → Derivation → List ℕ → Type 0
 IsLeastText s t text = (M : Structure) × (m : Value) × IsLeastValue s.rules t M m × (text ≡ canonical (look_of s) M m)
 
--- What the lines of a session may be, as far as it is built: what a line of more than 4,096 bytes is answered, and one that is not UTF-8,
--- the command that the words of a line spell, none where they spell none, and the replies to the commands that speak of the grammar.
+-- What the lines of a session may be, as far as it is built.
 pub record LineForms : Type 1 where
+  -- the replies to a line of more than 4,096 bytes, and to one that is not UTF-8
   pub too_long : List ℕ
   pub not_text : List ℕ
+  -- the command that the words of a line spell; none where they spell none
   pub command : List (List ℕ) → Option Command
+  -- the replies to the commands that speak of the grammar
   pub more : Replies
 
--- all of them, with these replies
+-- all forms of lines, with these replies to the commands that speak of the grammar
 abbrev pub whole_forms : Replies → LineForms
 whole_forms more = record { too_long = line (codes "error: line too long"); not_text = line (codes "error: line is not UTF-8"); command = command_of; more = more }
 
+-- the line ends the session
 abbrev pub IsQuit : LineForms → List ℕ → Type 0
 IsQuit forms bytes = (length bytes ≤ 4096) × IsUtf8 bytes × (forms.command (words_of bytes) ≡ Some Quit)
 
@@ -241,6 +263,7 @@ module _ (judge : Judge) where
   IsCommandReply forms s st (Make n) text st' = forms.more s st (Make n) text × (st' ≡ st)
   IsCommandReply forms s st Quit text st' = ⊥
 
+  -- the reply to words that begin with `:`, and the state after it
   abbrev pub IsColonReply : LineForms → Grounds → State → Option Command → List ℕ → State → Type 0
   IsColonReply forms s st None text st' = (text ≡ line (codes "error: bad command")) × (st' ≡ st)
   IsColonReply forms s st (Some c) text st' = IsCommandReply forms s st c text st'

@@ -1,7 +1,7 @@
 -- The tokens of a text, with their places: what stands at the front of the bytes, and then what stands behind it.
 --     front bytes            what stands at the front, and how many bytes it has
 --     scan skip at p bytes   the tokens of the bytes, or the place of the first character that is refused
-use Rattle.std.specs.Prelude.{◌≡◌, ℕ, zero, suc, ◌+◌, ◌-◌, List, [], ◌∷◌, take, Bool, true, false, cond, not, ◌&&◌, ◌||◌, nat_eq, nat_lt, Option, Some, None, Result, Ok, Err}
+use Rattle.std.specs.Prelude.{ℕ, zero, suc, ◌+◌, ◌-◌, List, [], ◌∷◌, take, Bool, false, cond, not, ◌&&◌, ◌||◌, nat_eq, nat_lt, Option, Some, None, Result, Ok, Err}
 use Rattle.std.specs.List.{prefix_len}
 use Rattle.patr_model.specs.declared.front.Kind.{Kind}
 use Rattle.patr_model.specs.declared.front.Kind.TheVariants.{Less, Greater, Equal, OpenBrace, CloseBrace, OpenParen, CloseParen, OpenBracket, CloseBracket, Slash, Colon, Dot, Arrow, Word}
@@ -23,9 +23,11 @@ pub record Token : Type 0 where
 
 -- ---- characters
 
+-- a space, a tab, an LF or a CR
 abbrev pub is_white : ℕ → Bool
 is_white b = nat_eq b 32 || nat_eq b 9 || nat_eq b 10 || nat_eq b 13
 
+-- a control character that is no white space
 abbrev pub is_control : ℕ → Bool
 is_control b = (nat_lt b 32 && not (is_white b)) || nat_eq b 127
 
@@ -61,6 +63,7 @@ word_len (b ∷ bs) = cond (word_goes_on (b ∷ bs)) (suc (word_len bs)) 0
 abbrev pub line_len : List ℕ → ℕ
 line_len bs = prefix_len (λ b. not (nat_eq b 10)) bs
 
+-- one character as a token: of its kind, or a Word where it has none
 abbrev pub piece : Option Kind → Front
 piece None = Piece Word 1
 piece (Some k) = Piece k 1
@@ -77,10 +80,11 @@ front (b ∷ bs) =
 
 -- ---- places
 
--- the place after a byte, and after several
+-- the place after a byte
 abbrev pub step : Place → ℕ → Place
 step p b = cond (nat_eq b 10) (record { line = p.line + 1; column = 1 }) (record { line = p.line; column = p.column + 1 })
 
+-- the place after several bytes
 abbrev pub after : Place → List ℕ → Place
 after p [] = p
 after p (b ∷ bs) = after (step p b) bs
@@ -89,14 +93,17 @@ after p (b ∷ bs) = after (step p b) bs
 abbrev pub passed : Place → ℕ → ℕ → Place
 passed p b n = cond (nat_eq b 10) (record { line = p.line + 1; column = 1 }) (record { line = p.line; column = p.column + n })
 
+-- the place of the first byte of a text
 abbrev pub start_place : Place
 start_place = record { line = 1; column = 1 }
 
 -- ---- the tokens, or the place of the first character that is refused
 
+-- what a scan gives
 abbrev pub Scanned : Type 0
 Scanned = Result (List Token) Place
 
+-- a token before what is read behind it
 abbrev pub with_token : Token → Scanned → Scanned
 with_token t (Ok ts) = Ok (t ∷ ts)
 with_token t (Err p) = Err p

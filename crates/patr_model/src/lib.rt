@@ -3,8 +3,6 @@
 
 mod front;
 
-pub use front::{Front, Kind};
-
 ghost use Rattle.patr_model.specs.Samples.{SamplesOfMaps};
 ghost use Rattle.patr_model.specs.Laws.{SubsumptionIsOrder, UnifiersAreSame, LeastValuesExtend, UnifierIsLeastValue, PredictionDropsNone, SameAsUnifier, ClosedMarksAreSettled, ChartIsLicensed, NoMoreThanAll, OneReply, PlainIsSolvable, CategoriesAreOneAll, PlainChartIsSolved, CanonicalTexts, TextsAreRead, ReadingIsBack, LeastTextsAreOneAll, WalksAreWhole, Printing, WalksByStack, MapsByPairsAll, BuildsByStack, SortedIsInOrder, ReadsByItemsAll, TablesGive, TextsAreLocal};
 ghost use Rattle.patr_model.specs.Keys.{KeysTell};
@@ -15,6 +13,8 @@ ghost use Rattle.patr_model.specs.Chains.{ChainSteps};
 ghost use Rattle.patr_model.specs.Longer.{LongerKeeps};
 ghost use Rattle.patr_model.specs.Openings.{OpeningsAreOne, RunsAreOne, SentenceRepliesBegin, TablesAreNumbered};
 ghost use Rattle.patr_model.specs.Renaming.{RepliesIgnoreNumbers, RunsIgnoreNumbers, VariantsIgnoreNumbers, EachNumberingServes};
+
+pub use front::{Front, Kind};
 
 /// Subsumption is an order.
 pub fn subsumption_is_order()
