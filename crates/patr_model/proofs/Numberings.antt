@@ -1,7 +1,7 @@
 -- A numbering for each table: the table's texts by their places, and the others, behind them, by a number that has its text back.
 use Rattle.std.proofs.Common.{◌≡◌, ℕ, zero, suc, Bool, true, false, cond, List, [], ◌∷◌, Some, refl, sym, ap, ◌∙◌, arith}
+use Rattle.patr_model.specs.Bytes.{same_text}
 use Rattle.patr_model.specs.Session.{Numbering, AgreesWith}
-use Rattle.patr_model.specs.Reading.{is_same}
 use Rattle.patr_model.specs.Table.{IsTable}
 use Rattle.patr_model.proofs.Maps.{some_inj}
 use Rattle.patr_model.proofs.Canonical.{same_is, same_true}
@@ -63,7 +63,7 @@ counted_back (x ∷ xs) = let h = counted_times x (count_of xs) in ap counted h.
 
 abbrev table_place : List (List ℕ) → List ℕ → ℕ
 table_place [] text = count_of text
-table_place (t ∷ ts) text = cond (is_same t text) 0 (suc (table_place ts text))
+table_place (t ∷ ts) text = cond (same_text t text) 0 (suc (table_place ts text))
 
 abbrev text_at : List (List ℕ) → ℕ → List ℕ
 text_at [] n = counted n
@@ -72,9 +72,9 @@ text_at (t ∷ ts) (suc n) = text_at ts n
 
 text_back : (table : List (List ℕ)) (text : List ℕ) → text_at table (table_place table text) ≡ text
 text_back [] text = counted_back text
-text_back (t ∷ ts) text = go (is_same t text) refl (text_back ts text)
+text_back (t ∷ ts) text = go (same_text t text) refl (text_back ts text)
   where
-    go : (b : Bool) → is_same t text ≡ b → text_at ts (table_place ts text) ≡ text → text_at (t ∷ ts) (cond b 0 (suc (table_place ts text))) ≡ text
+    go : (b : Bool) → same_text t text ≡ b → text_at ts (table_place ts text) ≡ text → text_at (t ∷ ts) (cond b 0 (suc (table_place ts text))) ≡ text
     go true q rest = same_is t text q
     go false q rest = rest
 
@@ -86,10 +86,10 @@ rest_is_table t ts is i j u e f = let s = is (suc i) (suc j) u e f in omega arit
 
 at_its_place : (table : List (List ℕ)) → IsTable table → AgreesWith (numbered table) table
 at_its_place [] is i text e = cc
-at_its_place (t ∷ ts) is zero text e = ap (λ b. cond b 0 (suc (table_place ts text))) (ap (λ u. is_same u text) (some_inj t text e) ∙ same_true text)
-at_its_place (t ∷ ts) is (suc i) text e = go (is_same t text) refl (at_its_place ts (rest_is_table t ts is) i text e)
+at_its_place (t ∷ ts) is zero text e = ap (λ b. cond b 0 (suc (table_place ts text))) (ap (λ u. same_text u text) (some_inj t text e) ∙ same_true text)
+at_its_place (t ∷ ts) is (suc i) text e = go (same_text t text) refl (at_its_place ts (rest_is_table t ts is) i text e)
   where
-    go : (b : Bool) → is_same t text ≡ b → table_place ts text ≡ i → cond b 0 (suc (table_place ts text)) ≡ suc i
+    go : (b : Bool) → same_text t text ≡ b → table_place ts text ≡ i → cond b 0 (suc (table_place ts text)) ≡ suc i
     go true q rest = absurd (let s = is 0 (suc i) text (ap Some (same_is t text q)) e in omega arith)
     go false q rest = ap suc rest
 

@@ -3,10 +3,11 @@ use Rattle.std.proofs.Common.{◌≡◌, inl, inr, ℕ, zero, suc, ◌≤◌, fa
 use Rattle.std.specs.Option.{option_map, option_and_then}
 use Rattle.std.specs.Fmt.{digits}
 use Rattle.std.specs.List.{AllByRecursion}
+use Rattle.patr_model.specs.Bytes.{same_text}
 use Rattle.patr_model.specs.Derivation.{Rules, RuleVariant, EntryVariant, Derivation, Leaf, Begin, Extend, entry_variant, rule_variant, root_rule, start, end, seen, size, IsPartial}
 use Rattle.patr_model.specs.Plain.{plain, IsPlain, slot_category, category_of}
 use Rattle.patr_model.specs.Chart.{IsIn, InChart, word, first, predicted, extended, HasMoreThan, IsAnalysis}
-use Rattle.patr_model.specs.Session.{Numbering, Grounds, State, same_text, look_of, line, lines_of, IsKnown, IsSentenceReply, IsLineReply, Replied}
+use Rattle.patr_model.specs.Session.{Numbering, Grounds, State, look_of, line, lines_of, IsKnown, IsSentenceReply, IsLineReply, Replied}
 use Rattle.patr_model.specs.Text.{printed, tree_text}
 use Rattle.patr_model.specs.Run.{Done, Session, first_state, IsOut, IsSession}
 use Rattle.patr_model.specs.FirstPass.{first_pass, plain_grounds, plain_rules, bad_command}

@@ -4,11 +4,12 @@
 --     ReadsRules, RulesFault, ReadsEntries, EntriesFault     the same of the bytes of a file
 --     first_pass           all of it, as a run reads it
 use Rattle.std.specs.Prelude.{◌≡◌, ℕ, zero, suc, ◌+◌, ◌<◌, ◌≤◌, List, [], ◌∷◌, ◌++◌, map, length, take, Bool, true, false, cond, not, ◌&&◌, ◌||◌, nat_eq, nat_lt, nat_le, Option, Some, None, Ok, Err, IsUtf8, codes, decimal}
+use Rattle.patr_model.specs.Bytes.{same_text}
 use Rattle.patr_model.specs.declared.front.Kind.{Kind}
 use Rattle.patr_model.specs.declared.front.Kind.TheVariants.{Arrow, Word}
 use Rattle.patr_model.specs.Derivation.{Rules}
 use Rattle.patr_model.specs.Plain.{plain}
-use Rattle.patr_model.specs.Session.{Numbering, Grounds, LineForms, same_text, line, cut_at, lines_by}
+use Rattle.patr_model.specs.Session.{Numbering, Grounds, LineForms, line, cut_at, lines_by}
 use Rattle.patr_model.specs.Tokens.{Place, Token, after, start_place, tokens_of}
 use Rattle.patr_model.specs.Run.{Setup, Notations}
 

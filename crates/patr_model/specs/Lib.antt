@@ -1,3 +1,4 @@
+pub mod Bytes
 pub mod Structure
 pub mod Subsumption
 pub mod Equation

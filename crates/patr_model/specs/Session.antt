@@ -2,6 +2,7 @@
 use Rattle.std.specs.Prelude.{◌≡◌, ◌⊎◌, ℕ, suc, ◌+◌, ◌*◌, ◌-◌, ◌<◌, ◌≤◌, List, [], ◌∷◌, ◌++◌, map, length, Bool, true, false, cond, ◌&&◌, ◌||◌, nat_eq, nat_le, Option, Some, None, MatchBool, slice_get, decimal, codes, IsUtf8}
 use Rattle.std.specs.List.{AllByRecursion}
 use Rattle.std.specs.Option.{option_map}
+use Rattle.patr_model.specs.Bytes.{is_digit, same_text}
 use Rattle.patr_model.specs.Structure.{Value, Structure}
 use Rattle.patr_model.specs.Derivation.{Rules, EntryVariant, Derivation, KeyItem, entry_variant, key}
 use Rattle.patr_model.specs.Solution.{IsLeastValue}
@@ -37,13 +38,6 @@ pub record State : Type 0 where
   pub limit : ℕ
   pub features : Bool
   pub count : Bool
-
--- two texts are the same, byte for byte
-abbrev pub same_text : List ℕ → List ℕ → Bool
-same_text [] [] = true
-same_text [] (y ∷ ys) = false
-same_text (x ∷ xs) [] = false
-same_text (x ∷ xs) (y ∷ ys) = nat_eq x y && same_text xs ys
 
 -- the pieces between the bytes that pass the test; there is always a first one
 pub record Cut : Type 0 where
@@ -128,10 +122,6 @@ abbrev pub Rises : List Derivation → Type 0
 Rises [] = Unit {0}
 Rises (t ∷ []) = Unit {0}
 Rises (t ∷ u ∷ ts) = number_before (numbers (key t)) (numbers (key u)) × Rises (u ∷ ts)
-
--- an ASCII digit
-abbrev pub is_digit : ℕ → Bool
-is_digit b = nat_le 48 b && nat_le b 57
 
 -- the number that these digits spell behind the number so far; none where one is no digit
 abbrev pub digits_value : ℕ → List ℕ → Option ℕ
