@@ -1,0 +1,46 @@
+//! Places in a text.
+ghost use Rattle.std.specs.Prelude.{◌≡◌, ◌-◌, ◌^◌, ◌<◌, length, map};
+ghost use Rattle.patr_model.specs.Tokens.{after, start_place};
+ghost use Rattle.patr_model.specs.FirstPass.{stop};
+ghost use Rattle.patr_text.specs.Tokens.{seen};
+ghost use Rattle.patr_grammar.specs.Views.{place_seen};
+
+use patr_text::Token;
+
+/// A line and a column, from 1; columns count bytes.
+#[derive(Clone, Copy, Debug, PartialEq, Eq)]
+pub struct Place {
+    pub line: u32,
+    pub column: u32,
+}
+
+/// The place behind a text.
+fn end_of(text: &str) -> Place
+    requires { length text.now < 2 ^ 32 - 1 }
+    ensures { place_seen result ≡ after start_place text.now }
+{
+    let mut place = Place { line: 1, column: 1 };
+    for byte in text.as_bytes() {
+        if *byte == b'\n' {
+            place.line += 1;
+            place.column = 1;
+        } else {
+            place.column += 1;
+        }
+    }
+    place
+}
+
+/// The place of the first of the tokens that end a text, or of the text's end.
+pub fn place_of(text: &str, tokens: &[Token]) -> Place
+    requires { length text.now < 2 ^ 32 - 1 }
+    ensures { place_seen result ≡ stop (after start_place text.now) (map (seen text.now) tokens.now) }
+{
+    match tokens {
+        [] => end_of(text),
+        [first, ..] => Place {
+            line: first.line,
+            column: first.column,
+        },
+    }
+}

@@ -1,0 +1,95 @@
+use super::*;
+use patr_text::{Fault, Id, Symbols};
+use std::alloc::Global;
+use std::process::Abort;
+use std::test::Fail;
+
+/// Grammars, and what they are read as.
+const GRAMMARS: [(&[u8], &str); 16] = [
+    (
+        b"Rule S -> NP VP\nRule NP -> Det N\nRule VP -> V\n",
+        "1 S:S -> NP:NP VP:VP|2 NP:NP -> Det:Det N:N|3 VP:VP -> V:V|start S",
+    ),
+    (b"RULE s -> a_1", "1 s:s -> a_1:a|start s"),
+    (
+        b"; notes\n\nrule S_2 -> _1 a_ b_2c e_1_2",
+        "3 S_2:S -> _1:_1 a_:a_ b_2c:b_2c e_1_2:e_1|start S",
+    ),
+    (b"Rule S ->", "1 S:S ->|start S"),
+    (b"Rule S -> NP VP <S f> = x", "1:17: not built yet"),
+    (b"", "1:1: not built yet"),
+    (b"\n; nothing\n", "3:1: not built yet"),
+    (b"Rule S -> NP\nRule NP", "2:8: not built yet"),
+    (b"Rule S -> let", "1:11: not built yet"),
+    (b"Rule rule -> A", "1:6: not built yet"),
+    (b"\x01", "1:1: bad character"),
+    (b"Rule S\n -> \x7f", "2:5: bad character"),
+    (b"\xff", "not UTF-8 at byte 0"),
+    (b"Rule \xc3\xa9 -> \xc3", "not UTF-8 at byte 11"),
+    (
+        b"Rule A -> B B B B B B B B B B B B B B B B B B B B B B B B B B B B B B B B",
+        "1 A:A -> B:B B:B B:B B:B B:B B:B B:B B:B B:B B:B B:B B:B B:B B:B B:B B:B B:B B:B B:B B:B B:B B:B B:B B:B B:B B:B B:B B:B B:B B:B B:B B:B|start A",
+    ),
+    (
+        b"Rule A -> B B B B B B B B B B B B B B B B B B B B B B B B B B B B B B B B B",
+        "1:75: not built yet",
+    ),
+];
+
+/// The text of a number, where the table has one.
+fn text_of(symbols: &Symbols, id: Id) -> &str {
+    if id.0 < symbols.len() {
+        symbols.text(id)
+    } else {
+        "?"
+    }
+}
+
+/// A symbol and its category, by their texts.
+fn shown_symbol(alloc: Global, symbols: &Symbols, symbol: SymbolText) -> Result<String, Fail> {
+    let text = text_of(symbols, symbol.symbol);
+    let category = text_of(symbols, symbol.category);
+    Ok(format!(in alloc; "{text}:{category}")?)
+}
+
+/// The rules of a grammar, each with its line, and the start symbol.
+fn shown_grammar(alloc: Global, symbols: &Symbols, grammar: &Grammar) -> Result<String, Fail> {
+    let mut shown = String::new(alloc);
+    for rule in &grammar.rules {
+        let mother = shown_symbol(alloc, symbols, rule.mother)?;
+        let line = rule.line;
+        shown.push_str(&format!(in alloc; "{line} {mother} ->")?)?;
+        for item in &rule.right {
+            match item {
+                Item::Symbol(symbol) => {
+                    shown.push_str(" ")?;
+                    shown.push_str(&shown_symbol(alloc, symbols, *symbol)?)?;
+                }
+            }
+        }
+        shown.push_str("|")?;
+    }
+    shown.push_str("start ")?;
+    shown.push_str(text_of(symbols, grammar.start))?;
+    Ok(shown)
+}
+
+/// What the bytes of a grammar are read as.
+fn shown<A: Abort>(rt: &A, alloc: Global, bytes: &[u8]) -> Result<String, Fail> {
+    let mut symbols = Symbols::new(alloc)?;
+    assert!(rt; symbols.len() < 100 && bytes.len() < 200);
+    match read_grammar(alloc, &mut symbols, bytes) {
+        Ok(grammar) => shown_grammar(alloc, &symbols, &grammar),
+        Err(Fault::Refused(cause)) => Ok(format!(in alloc; "{cause}")?),
+        Err(Fault::Memory) => Ok(format!(in alloc; "no memory")?),
+    }
+}
+
+#[test]
+fn grammars_are_read_or_refused(rt: HostRuntime) -> Result<(), Fail> {
+    let alloc = rt.alloc();
+    for (bytes, wanted) in GRAMMARS {
+        assert_eq!(rt; shown(&rt, alloc, bytes)?.as_str(), wanted);
+    }
+    Ok(())
+}
