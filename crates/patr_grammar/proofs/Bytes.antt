@@ -31,7 +31,3 @@ bytes_within ts n lt = omega (arith, bytes_more ts n lt, bytes_split ts (n + 1))
 
 pub map_more : {X : Type 0} (f : Token → X) (ts : List Token) (n : ℕ) → n < length ts → map f (take n ts) ++ f (get_or ts n blank) ∷ [] ≡ map f (take (n + 1) ts)
 map_more f ts n lt = sym (map_push f (take n ts) (get_or ts n blank)) ∙ ap (map f) (sym (take_more ts n blank lt))
-
-pub map_twice : {X Y : Type 0} (f : X → Y) (g : Token → X) (ts : List Token) → map (λ t. f (g t)) ts ≡ map f (map g ts)
-map_twice f g [] = refl
-map_twice f g (t ∷ ts) = ap (λ us. f (g t) ∷ us) (map_twice f g ts)

@@ -1,17 +1,13 @@
 -- Rules that a loop has read, and those that are still read.
-use Rattle.std.proofs.Common.{◌≡◌, ℕ, zero, suc, ◌-◌, ◌≤◌, List, [], ◌∷◌, ◌++◌, length, map, Err, sym, ap, ◌∙◌, arith, append-nil}
-use Rattle.std.proofs.lemmas.List.{map_push}
+use Rattle.std.proofs.Common.{◌≡◌, ℕ, zero, suc, ◌-◌, ◌≤◌, List, [], ◌∷◌, ◌++◌, length, Err, sym, ap, ◌∙◌, arith, append-nil}
 use Rattle.patr_model.specs.Tokens.{Token}
-use Rattle.patr_model.specs.Session.{Numbering}
 use Rattle.patr_model.specs.FirstPass.{Parse, Got, Stops, ◌>>=◌, PlainRule, rule, more_rules, rules}
 use Rattle.patr_text.specs.declared.fault.Fault.{Fault}
 use Rattle.patr_text.specs.declared.fault.Fault.TheVariants.{Memory, Refused}
-use Rattle.patr_text.specs.declared.symbols.Id.{Id}
-use Rattle.patr_grammar.specs.declared.grammar.RuleText.{RuleText}
 use Rattle.patr_grammar.specs.declared.reader.Refusal.{Refusal}
 use Rattle.patr_grammar.specs.declared.reader.Refusal.TheVariants.{LaterForm}
-use Rattle.patr_grammar.specs.Reading.{NumberedRule, numbered, rule_seen}
-use Rattle.patr_grammar.specs.Views.{GivesNumbered, NumberedGrammar, grammar_seen, grammar_numbers}
+use Rattle.patr_grammar.specs.Reading.{IsRule}
+use Rattle.patr_grammar.specs.Views.{GivesBy, IsGrammar}
 use Rattle.patr_grammar.proofs.Parses.{onto, onto_one}
 
 pub rules_begin : (ts rest : List Token) (r : PlainRule) → rule ts ≡ Got r rest → rules ts ≡ onto (r ∷ []) (more_rules (length rest) rest)
@@ -44,33 +40,10 @@ rules_stop front zero (t ∷ ts) rest total some le e g = absurd (omega arith)
 rules_stop front (suc n) (t ∷ ts) rest total some le e g = sym e ∙ more_stop front n t ts rest g
 
 pub rules_refuse : (f : Fault Refusal) (table : List (List ℕ)) (front : List PlainRule) (n : ℕ) (ts rest : List Token) (total : Parse (List PlainRule)) → 1 ≤ length ts → length ts ≤ n → onto front (more_rules n ts) ≡ total
-    → GivesNumbered rule_seen numbered table (Err f) rest (rule ts) → GivesNumbered grammar_seen grammar_numbers table (Err f) rest total
+    → GivesBy IsRule table (Err f) rest (rule ts) → GivesBy IsGrammar table (Err f) rest total
 rules_refuse Memory table front n ts rest total some le e g = tt
 rules_refuse (Refused LaterForm) table front n ts rest total some le e g = rules_stop front n ts rest total some le e g
 
 pub rules_end : (front : List PlainRule) (n : ℕ) (ts : List Token) (total : Parse (List PlainRule)) → ts ≡ [] → onto front (more_rules n ts) ≡ total → total ≡ Got front ts
 rules_end front n [] total none e = sym e ∙ more_end front n
 rules_end front n (t ∷ ts) total none e = absurd cc
-
--- ---- rules with numbers
-
-grammar_is : {xs ys : List NumberedRule} {i j : Id} → xs ≡ ys → i ≡ j → ◌≡◌ {A = NumberedGrammar} (record { rules = xs; start = i }) (record { rules = ys; start = j })
-grammar_is {xs = xs} {ys = ys} {i = i} {j = j} e f =
-    ap (λ (us : List NumberedRule). let g : NumberedGrammar = record { rules = us; start = i } in g) e
-    ∙ ap (λ (k : Id). let g : NumberedGrammar = record { rules = ys; start = k } in g) f
-
-pub grammar_begins : (N : Numbering) (items : List RuleText) (f : RuleText) (r : PlainRule) → items ≡ f ∷ [] → rule_seen f ≡ numbered N r
-    → ◌≡◌ {A = NumberedGrammar} (record { rules = map rule_seen items; start = f.mother.category }) (grammar_numbers N (r ∷ []))
-grammar_begins N items f r is e =
-    grammar_is (ap (map rule_seen) is ∙ ap (λ (x : NumberedRule). x ∷ []) e) (ap (λ (x : NumberedRule). x.mother.category) e)
-
-pub grammar_goes_on : (N : Numbering) (items new : List RuleText) (start : Id) (f : RuleText) (r s : PlainRule) (rs : List PlainRule) → new ≡ items ++ f ∷ [] → rule_seen f ≡ numbered N s
-    → ◌≡◌ {A = NumberedGrammar} (record { rules = map rule_seen items; start = start }) (grammar_numbers N (r ∷ rs))
-    → ◌≡◌ {A = NumberedGrammar} (record { rules = map rule_seen new; start = start }) (grammar_numbers N (r ∷ rs ++ s ∷ []))
-grammar_goes_on N items new start f r s rs is e g =
-    grammar_is
-    (ap (map rule_seen) is ∙ map_push rule_seen items f
-    ∙ ap (λ (us : List NumberedRule). us ++ rule_seen f ∷ []) (ap (λ (x : NumberedGrammar). x.rules) g)
-    ∙ ap (λ (x : NumberedRule). map (numbered N) (r ∷ rs) ++ x ∷ []) e
-    ∙ sym (map_push (numbered N) (r ∷ rs) s))
-    (ap (λ (x : NumberedGrammar). x.start) g)

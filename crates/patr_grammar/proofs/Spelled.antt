@@ -1,5 +1,5 @@
 -- Tokens in order, and the bytes that they have.
-use Rattle.std.proofs.Common.{ℕ, ◌+◌, ◌≤◌, List, [], ◌∷◌, arith}
+use Rattle.std.proofs.Common.{ℕ, ◌+◌, ◌≤◌, List, [], ◌∷◌, length, arith}
 use Rattle.std.specs.List.{All}
 use Rattle.std.proofs.lemmas.List.Elements.{All-nil, All-cons, All-head, All-tail}
 use Rattle.patr_text.specs.declared.token.Token.{Token}
@@ -14,3 +14,8 @@ spelled_in_order text (t ∷ ts) at end cut order =
 pub bytes_in_order : (ts : List Token) (at end : ℕ) → at ≤ end → InOrder at end ts → bytes_of ts + at ≤ end
 bytes_in_order [] at end le order = omega arith
 bytes_in_order (t ∷ ts) at end le order = omega (arith, bytes_in_order ts t.end end order.2 order.3)
+
+-- each token has a byte of its own
+pub count_in_order : (ts : List Token) (at end : ℕ) → at ≤ end → InOrder at end ts → length ts + at ≤ end
+count_in_order [] at end le order = omega arith
+count_in_order (t ∷ ts) at end le order = omega (arith, count_in_order ts t.end end order.2 order.3)

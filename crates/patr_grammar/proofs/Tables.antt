@@ -1,10 +1,11 @@
 -- Tables of texts that grow.
-use Rattle.std.proofs.Common.{◌≡◌, ℕ, zero, suc, Bool, true, false, cond, List, [], ◌∷◌, ◌++◌, slice_get, Some, refl, sym, ap, ◌∙◌, subst, append_assoc, append-nil}
-use Rattle.patr_model.specs.Session.{Numbering, AgreesWith}
-use Rattle.patr_model.specs.FirstPass.{without_index}
+use Rattle.std.proofs.Common.{◌≡◌, ℕ, zero, suc, Bool, true, false, cond, List, [], ◌∷◌, ◌++◌, map, slice_get, Some, refl, sym, ap, ◌∙◌, subst, append_assoc, append-nil}
+use Rattle.patr_model.specs.FirstPass.{PlainRule}
+use Rattle.patr_model.specs.Renaming.{Each}
 use Rattle.patr_text.specs.Texts.{holds, with_text, Extends}
 use Rattle.patr_grammar.specs.declared.grammar.SymbolText.{SymbolText}
-use Rattle.patr_grammar.specs.Reading.{NumberedRule, numbers_of}
+use Rattle.patr_grammar.specs.declared.grammar.RuleText.{RuleText}
+use Rattle.patr_grammar.specs.Reading.{IsSymbol, IsRule, item_seen}
 
 extends_by : (b : Bool) (texts : List (List ℕ)) (t : List ℕ) → Extends texts (cond b texts (texts ++ t ∷ []))
 extends_by true texts t = ([], sym (append-nil texts))
@@ -24,18 +25,33 @@ at_front [] ys i t h = absurd cc
 at_front (x ∷ xs) ys zero t h = h
 at_front (x ∷ xs) ys (suc i) t h = at_front xs ys i t h
 
--- a numbering that agrees with the longer table agrees with the shorter one
-pub agrees_back : (N : Numbering) (old new : List (List ℕ)) → Extends old new → AgreesWith N new → AgreesWith N old
-agrees_back N old new e h = λ i t is. h i t (subst (λ (u : List (List ℕ)). slice_get u i ≡ Some t) (sym e.1) (at_front old e.0 i t is))
+-- ---- lists whose members belong together
 
-pub numbers_are : (N : Numbering) (text name : List ℕ) (i j : ℕ) → N.number text ≡ i → N.number name ≡ j → name ≡ without_index text
-    → ◌≡◌ {A = SymbolText} (record { symbol = record { 0 = i }; category = record { 0 = j } }) (numbers_of N text)
-numbers_are N text name i j a b e =
-    let d : j ≡ N.number (without_index text) = sym b ∙ ap N.number e in
-    ap (λ (k : ℕ). let s : SymbolText = record { symbol = record { 0 = k }; category = record { 0 = j } } in s) (sym a)
-    ∙ ap (λ (k : ℕ). let s : SymbolText = record { symbol = record { 0 = N.number text }; category = record { 0 = k } } in s) d
+pub each_push : {X Y : Type 0} (R : X → Y → Type 0) (xs : List X) (ys : List Y) (x : X) (y : Y) → Each R xs ys → R x y → Each R (xs ++ x ∷ []) (ys ++ y ∷ [])
+each_push R [] [] x y h r = (r, tt)
+each_push R [] (b ∷ ys) x y h r = absurd h
+each_push R (a ∷ xs) [] x y h r = absurd h
+each_push R (a ∷ xs) (b ∷ ys) x y h r = (h.0, each_push R xs ys x y h.1 r)
 
-pub rule_is : {m n : SymbolText} {xs ys : List SymbolText} (l : ℕ) → m ≡ n → xs ≡ ys → ◌≡◌ {A = NumberedRule} (record { line = l; mother = m; right = xs }) (record { line = l; mother = n; right = ys })
-rule_is {m = m} {n = n} {xs = xs} {ys = ys} l e f =
-    ap (λ (s : SymbolText). let r : NumberedRule = record { line = l; mother = s; right = xs } in r) e
-    ∙ ap (λ (us : List SymbolText). let r : NumberedRule = record { line = l; mother = n; right = us } in r) f
+each_still : {X Y : Type 0} (R S : X → Y → Type 0) → ((x : X) (y : Y) → R x y → S x y) → (xs : List X) (ys : List Y) → Each R xs ys → Each S xs ys
+each_still R S f [] [] h = tt
+each_still R S f [] (b ∷ ys) h = absurd h
+each_still R S f (a ∷ xs) [] h = absurd h
+each_still R S f (a ∷ xs) (b ∷ ys) h = (f a b h.0, each_still R S f xs ys h.1)
+
+-- ---- what holds by a table holds by one that extends it
+
+pub text_still : (old new : List (List ℕ)) → Extends old new → (i : ℕ) (t : List ℕ) → slice_get old i ≡ Some t → slice_get new i ≡ Some t
+text_still old new e i t is = subst (λ (u : List (List ℕ)). slice_get u i ≡ Some t) (sym e.1) (at_front old e.0 i t is)
+
+pub symbol_still : (old new : List (List ℕ)) → Extends old new → (t : List ℕ) (s : SymbolText) → IsSymbol old t s → IsSymbol new t s
+symbol_still old new e t s h = (text_still old new e s.symbol.0 t h.0, text_still old new e s.category.0 _ h.1)
+
+pub symbols_still : (old new : List (List ℕ)) → Extends old new → (ts : List (List ℕ)) (ss : List SymbolText) → Each (IsSymbol old) ts ss → Each (IsSymbol new) ts ss
+symbols_still old new e = each_still (IsSymbol old) (IsSymbol new) (symbol_still old new e)
+
+rule_still : (old new : List (List ℕ)) → Extends old new → (g : RuleText) (r : PlainRule) → IsRule old g r → IsRule new g r
+rule_still old new e g r h = (h.0, symbol_still old new e r.mother g.mother h.1, symbols_still old new e r.right (map item_seen g.right.items) h.2)
+
+pub rules_still : (old new : List (List ℕ)) → Extends old new → (gs : List RuleText) (rs : List PlainRule) → Each (IsRule old) gs rs → Each (IsRule new) gs rs
+rules_still old new e = each_still (IsRule old) (IsRule new) (rule_still old new e)

@@ -1,7 +1,7 @@
 -- What bytes stand for, as the code has it: a grammar, or why they stand for none.
-use Rattle.std.specs.Prelude.{◌≡◌, ℕ, List, map}
-use Rattle.patr_model.specs.Session.{Numbering}
+use Rattle.std.specs.Prelude.{◌≡◌, ℕ, List, map, Some, slice_get}
 use Rattle.patr_model.specs.FirstPass.{PlainRule, RulesTrouble, NotText, BadToken, NotBuilt, ReadsRules, RefusesRules, start_text, without_index}
+use Rattle.patr_model.specs.Renaming.{Each}
 use Rattle.patr_text.specs.declared.fault.Fault.{Fault}
 use Rattle.patr_text.specs.declared.fault.Fault.TheVariants.{Memory, Refused}
 use Rattle.patr_grammar.specs.declared.grammar.SymbolText.{SymbolText}
@@ -12,31 +12,21 @@ use Rattle.patr_grammar.specs.declared.grammar.Grammar.{Grammar}
 use Rattle.patr_grammar.specs.declared.grammar.GrammarCause.{GrammarCause}
 use Rattle.patr_grammar.specs.declared.grammar.GrammarCause.TheVariants as cause
 
--- a symbol's numbers: of its text, and of its text without its index
-abbrev pub numbers_of : Numbering → List ℕ → SymbolText
-numbers_of N text = record { symbol = record { 0 = N.number text }; category = record { 0 = N.number (without_index text) } }
-
--- a rule with the numbers of its symbols
-pub record NumberedRule : Type 0 where
-  pub line : ℕ
-  pub mother : SymbolText
-  pub right : List SymbolText
-
--- a rule's texts as numbers
-abbrev pub numbered : Numbering → PlainRule → NumberedRule
-numbered N r = record { line = r.line; mother = numbers_of N r.mother; right = map (numbers_of N) r.right }
+-- the symbol of the table with this text, and its category
+abbrev pub IsSymbol : List (List ℕ) → List ℕ → SymbolText → Type 0
+IsSymbol table text s = (slice_get table s.symbol.0 ≡ Some text) × (slice_get table s.category.0 ≡ Some (without_index text))
 
 -- an item's symbol
 abbrev pub item_seen : Item → SymbolText
 item_seen (Symbol s) = s
 
--- a rule of the code
-abbrev pub rule_seen : RuleText → NumberedRule
-rule_seen r = record { line = r.line; mother = r.mother; right = map item_seen r.right.items }
+-- a rule of the code is what was read
+abbrev pub IsRule : List (List ℕ) → RuleText → PlainRule → Type 0
+IsRule table g r = (g.line ≡ r.line) × IsSymbol table r.mother g.mother × Each (IsSymbol table) r.right (map item_seen g.right.items)
 
--- the grammar has the rules that the bytes stand for, under this numbering
-abbrev pub StandsFor : Numbering → List ℕ → Grammar → Type 0
-StandsFor N bytes g = (rs : List PlainRule) × ReadsRules bytes rs × (map rule_seen g.rules.items ≡ map (numbered N) rs) × (g.start ≡ record { 0 = N.number (start_text rs) })
+-- the grammar has the rules that the bytes stand for
+abbrev pub StandsFor : List (List ℕ) → List ℕ → Grammar → Type 0
+StandsFor table bytes g = (rs : List PlainRule) × ReadsRules bytes rs × Each (IsRule table) g.rules.items rs × (slice_get table g.start.0 ≡ Some (start_text rs))
 
 -- a cause of the code
 abbrev pub trouble_of : GrammarCause → RulesTrouble

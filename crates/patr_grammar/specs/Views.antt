@@ -1,11 +1,10 @@
 -- What the reader passes on, as the definitions see it.
-use Rattle.std.specs.Prelude.{◌≡◌, ℕ, ◌+◌, ◌-◌, ◌<◌, Bool, false, List, [], ◌∷◌, map, slice_range, Result, Ok, Err}
+use Rattle.std.specs.Prelude.{◌≡◌, ℕ, ◌+◌, ◌-◌, ◌<◌, Bool, false, List, [], ◌∷◌, map, slice_get, slice_range, Some, Result, Ok, Err}
 use Rattle.patr_model.specs.Tokens.{Place, Token}
-use Rattle.patr_model.specs.Session.{Numbering, AgreesWith}
 use Rattle.patr_model.specs.FirstPass.{Parse, Got, Stops, PlainRule, is_rule_word, is_symbol, is_arrow_token, start_text}
+use Rattle.patr_model.specs.Renaming.{Each}
 use Rattle.patr_text.specs.declared.fault.Fault.{Fault}
 use Rattle.patr_text.specs.declared.fault.Fault.TheVariants.{Memory, Refused}
-use Rattle.patr_text.specs.declared.symbols.Id.{Id}
 use Rattle.patr_text.specs.declared.token.Token as code
 use Rattle.patr_text.specs.Tokens.{IsCut}
 use Rattle.patr_grammar.specs.declared.place.Place as code_place
@@ -15,7 +14,7 @@ use Rattle.patr_grammar.specs.declared.reader.Refusal.TheVariants.{LaterForm}
 use Rattle.patr_grammar.specs.declared.reader.Expected.{Expected}
 use Rattle.patr_grammar.specs.declared.reader.Expected.TheVariants.{RuleWord, Symbol, Arrow}
 use Rattle.patr_grammar.specs.declared.reader.RuleTokens.{RuleTokens}
-use Rattle.patr_grammar.specs.Reading.{NumberedRule, numbered, rule_seen}
+use Rattle.patr_grammar.specs.Reading.{IsRule}
 
 -- a place of the code
 abbrev pub place_seen : code_place.Place → Place
@@ -56,21 +55,12 @@ Gives view (Ok x) rest p = p ≡ Got (view x) rest
 Gives view (Err Memory) rest p = Unit {0}
 Gives view (Err (Refused LaterForm)) rest p = p ≡ Stops rest
 
--- the same under each numbering that agrees with the table
-abbrev pub GivesNumbered : {X Y Z : Type 0} → (X → Z) → (Numbering → Y → Z) → List (List ℕ) → Result X (Fault Refusal) → List Token → Parse Y → Type 0
-GivesNumbered {Y = Y} view numbers table (Ok x) rest p = (y : Y) × (p ≡ Got y rest) × ((N : Numbering) → AgreesWith N table → view x ≡ numbers N y)
-GivesNumbered view numbers table (Err Memory) rest p = Unit {0}
-GivesNumbered view numbers table (Err (Refused LaterForm)) rest p = p ≡ Stops rest
+-- the same, where what was returned is by the table what the production gives
+abbrev pub GivesBy : {X Y : Type 0} → (List (List ℕ) → X → Y → Type 0) → List (List ℕ) → Result X (Fault Refusal) → List Token → Parse Y → Type 0
+GivesBy {Y = Y} R table (Ok x) rest p = (y : Y) × (p ≡ Got y rest) × R table x y
+GivesBy R table (Err Memory) rest p = Unit {0}
+GivesBy R table (Err (Refused LaterForm)) rest p = p ≡ Stops rest
 
--- rules with the numbers of their symbols, and the start symbol
-pub record NumberedGrammar : Type 0 where
-  pub rules : List NumberedRule
-  pub start : Id
-
--- a grammar of the code
-abbrev pub grammar_seen : Grammar → NumberedGrammar
-grammar_seen g = record { rules = map rule_seen g.rules.items; start = g.start }
-
--- a grammar's texts as numbers
-abbrev pub grammar_numbers : Numbering → List PlainRule → NumberedGrammar
-grammar_numbers N rs = record { rules = map (numbered N) rs; start = record { 0 = N.number (start_text rs) } }
+-- a grammar of the code has these rules, and their start symbol
+abbrev pub IsGrammar : List (List ℕ) → Grammar → List PlainRule → Type 0
+IsGrammar table g rs = Each (IsRule table) g.rules.items rs × (slice_get table g.start.0 ≡ Some (start_text rs))

@@ -1,9 +1,9 @@
 //! The numbers of a rule's symbols.
 ghost use Rattle.std.specs.Prelude.{◌≡◌, ◌+◌, ◌-◌, ◌^◌, ◌<◌, ◌≤◌, ◌∷◌, length, map, IfOk};
 ghost use Rattle.std.specs.List.{All};
-ghost use Rattle.patr_model.specs.Session.{Numbering, AgreesWith};
+ghost use Rattle.patr_model.specs.Renaming.{Each};
 ghost use Rattle.patr_text.specs.Texts.{Extends};
-ghost use Rattle.patr_grammar.specs.Reading.{numbers_of, numbered, item_seen, rule_seen};
+ghost use Rattle.patr_grammar.specs.Reading.{IsSymbol, IsRule, item_seen};
 ghost use Rattle.patr_grammar.specs.Views.{IsSpelled, text_of, bytes_of, plain_rule};
 
 use crate::grammar::{Item, RuleText, SymbolText};
@@ -16,7 +16,7 @@ use std::alloc::Global;
 fn symbol_text(symbols: &mut Symbols, text: &str) -> Result<SymbolText, Memory>
     requires some { 0 < length text.now }
     requires room { length symbols.old + length text.now < 2 ^ 32 - 1 }
-    ensures numbers { (N : Numbering) → AgreesWith N symbols.new → IfOk result (λ s. s ≡ numbers_of N text.now) }
+    ensures numbers { IfOk result (λ s. IsSymbol symbols.new text.now s) }
     ensures extends { Extends symbols.old symbols.new }
     ensures growth { length symbols.new ≤ length symbols.old + length text.now }
 {
@@ -41,7 +41,7 @@ fn items(
 ) -> Result<Vec<Item>, Memory>
     requires spelled { All (IsSpelled text.now) tokens.now }
     requires room { length symbols.old + bytes_of tokens.now < 2 ^ 32 - 1 }
-    ensures numbers { (N : Numbering) → AgreesWith N symbols.new → IfOk result (λ v. map item_seen v.items ≡ map (λ t. numbers_of N (text_of text.now t)) tokens.now) }
+    ensures numbers { IfOk result (λ v. Each (IsSymbol symbols.new) (map (text_of text.now) tokens.now) (map item_seen v.items)) }
     ensures extends { Extends symbols.old symbols.new }
     ensures growth { length symbols.new ≤ length symbols.old + bytes_of tokens.now }
 {
@@ -63,7 +63,7 @@ pub fn numbered_rule(
     requires mother { IsSpelled text.now rule.now.mother }
     requires right { All (IsSpelled text.now) rule.now.right.now }
     requires room { length symbols.old + bytes_of (rule.now.mother ∷ rule.now.right.now) < 2 ^ 32 - 1 }
-    ensures numbers { (N : Numbering) → AgreesWith N symbols.new → IfOk result (λ r. rule_seen r ≡ numbered N (plain_rule text.now rule.now)) }
+    ensures numbers { IfOk result (λ r. IsRule symbols.new r (plain_rule text.now rule.now)) }
     ensures extends { Extends symbols.old symbols.new }
     ensures growth { length symbols.new ≤ length symbols.old + bytes_of (rule.now.mother ∷ rule.now.right.now) }
 {

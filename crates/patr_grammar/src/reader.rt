@@ -4,8 +4,8 @@ ghost use Rattle.std.specs.List.{All};
 ghost use Rattle.patr_model.specs.FirstPass.{one, symbols, rule, rules, Got};
 ghost use Rattle.patr_text.specs.Texts.{Extends};
 ghost use Rattle.patr_text.specs.Tokens.{seen};
-ghost use Rattle.patr_grammar.specs.Reading.{numbered, rule_seen};
-ghost use Rattle.patr_grammar.specs.Views.{IsSpelled, text_of, bytes_of, plain_rule, passes, begins, Gives, GivesNumbered, grammar_seen, grammar_numbers};
+ghost use Rattle.patr_grammar.specs.Reading.{IsRule};
+ghost use Rattle.patr_grammar.specs.Views.{IsSpelled, text_of, bytes_of, plain_rule, passes, begins, Gives, GivesBy, IsGrammar};
 
 use crate::grammar::{Grammar, RuleText};
 use crate::numbering::numbered_rule;
@@ -145,7 +145,7 @@ impl<'a> Reader<'a> {
         requires room { length symbols.old + bytes_of self.old.rest.now < 2 ^ 32 - 1 }
         ensures text { self.new.text ≡ self.old.text }
         ensures spelled { All (IsSpelled self.old.text.now) self.new.rest.now }
-        ensures gives { GivesNumbered rule_seen numbered symbols.new result (map (seen self.old.text.now) self.new.rest.now) (rule (map (seen self.old.text.now) self.old.rest.now)) }
+        ensures gives { GivesBy IsRule symbols.new result (map (seen self.old.text.now) self.new.rest.now) (rule (map (seen self.old.text.now) self.old.rest.now)) }
         ensures extends { Extends symbols.old symbols.new }
         ensures growth { length symbols.new ≤ length symbols.old + bytes_of self.old.rest.now }
         ensures bytes { OnOk result (length symbols.new + bytes_of self.new.rest.now ≤ length symbols.old + bytes_of self.old.rest.now) }
@@ -160,8 +160,9 @@ impl<'a> Reader<'a> {
     pub fn grammar(&mut self, symbols: &mut Symbols) -> Result<Grammar, Fault<Refusal>>
         requires spelled { All (IsSpelled self.old.text.now) self.old.rest.now }
         requires room { length symbols.old + bytes_of self.old.rest.now < 2 ^ 32 - 1 }
-        ensures gives { GivesNumbered grammar_seen grammar_numbers symbols.new result (map (seen self.old.text.now) self.new.rest.now) (rules (map (seen self.old.text.now) self.old.rest.now)) }
+        ensures gives { GivesBy IsGrammar symbols.new result (map (seen self.old.text.now) self.new.rest.now) (rules (map (seen self.old.text.now) self.old.rest.now)) }
         ensures ends { OnOk result (self.new.rest.now ≡ []) }
+        ensures few { IfOk result (λ g. length g.rules.items ≤ length self.old.rest.now) }
         ensures extends { Extends symbols.old symbols.new }
         ensures growth { length symbols.new ≤ length symbols.old + bytes_of self.old.rest.now }
     {

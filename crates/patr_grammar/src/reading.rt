@@ -1,6 +1,5 @@
 //! Reading a grammar.
 ghost use Rattle.std.specs.Prelude.{◌+◌, ◌-◌, ◌^◌, ◌<◌, ◌≤◌, length, IfOk, IfErr};
-ghost use Rattle.patr_model.specs.Session.{Numbering, AgreesWith};
 ghost use Rattle.patr_text.specs.Texts.{Extends};
 ghost use Rattle.patr_grammar.specs.Reading.{StandsFor, IsRefusedFor};
 
@@ -17,7 +16,8 @@ fn read_text(
     text: &str,
 ) -> Result<Grammar, Fault<GrammarCause>>
     requires { length symbols.old + length text.now < 2 ^ 32 - 1 }
-    ensures reads { (N : Numbering) → AgreesWith N symbols.new → IfOk result (λ g. StandsFor N text.now g) }
+    ensures reads { IfOk result (λ g. StandsFor symbols.new text.now g) }
+    ensures few { IfOk result (λ g. length g.rules.items ≤ length text.now) }
     ensures refused { IfErr result (λ fault. IsRefusedFor text.now fault) }
     ensures extends { Extends symbols.old symbols.new }
     ensures growth { length symbols.new ≤ length symbols.old + length text.now }
@@ -57,7 +57,8 @@ pub fn read_grammar(
     bytes: &[u8],
 ) -> Result<Grammar, Fault<GrammarCause>>
     requires { length symbols.old + length bytes.now < 2 ^ 32 - 1 }
-    ensures reads { (N : Numbering) → AgreesWith N symbols.new → IfOk result (λ g. StandsFor N bytes.now g) }
+    ensures reads { IfOk result (λ g. StandsFor symbols.new bytes.now g) }
+    ensures few { IfOk result (λ g. length g.rules.items ≤ length bytes.now) }
     ensures refused { IfErr result (λ fault. IsRefusedFor bytes.now fault) }
     ensures extends { Extends symbols.old symbols.new }
     ensures growth { length symbols.new ≤ length symbols.old + length bytes.now }

@@ -4,11 +4,14 @@ use Rattle.std.proofs.lemmas.Str.{IsCharBoundary-start}
 use Rattle.patr_text.specs.declared.token.Token.{Token}
 use Rattle.patr_text.specs.Tokens.{InOrder}
 use Rattle.patr_grammar.specs.Views.{IsSpelled, bytes_of}
-use Rattle.patr_grammar.proofs.Spelled.{spelled_in_order, bytes_in_order}
+use Rattle.patr_grammar.proofs.Spelled.{spelled_in_order, bytes_in_order, count_in_order}
 use Rattle.patr_grammar.proofs.reading.read_text.Goals as goal
 
 within : (text : List ℕ) (ts items : List Token) → ts ≡ items → InOrder 0 (length text) items → bytes_of ts ≤ length text
 within text ts items e order = omega (arith, ap bytes_of e, bytes_in_order items 0 (length text) (omega arith) order)
+
+fewer : (text : List ℕ) (ts items : List Token) → ts ≡ items → InOrder 0 (length text) items → length ts ≤ length text
+fewer text ts items e order = omega (arith, ap length e, count_in_order items 0 (length text) (omega arith) order)
 
 pub tokens-requires-clause-start : goal.tokens-requires-clause-start
 tokens-requires-clause-start c = IsCharBoundary-start c.args.text.now c.utf8.text
@@ -29,3 +32,6 @@ returns-in-Err-Memory-grammar-clause-growth c = omega (arith, c.in-Err-Memory-gr
 
 pub returns-clause-growth : goal.returns-clause-growth
 returns-clause-growth c = omega (arith, c.in-Err-Refused-LaterForm.ensures.growth, within c.args.text.now c.deref.result.now c.in-Ok.tokens.items c.deref.ensures.value c.in-Ok.ensures.order)
+
+pub returns-in-Ok-grammar-clause-few : goal.returns-in-Ok-grammar-clause-few
+returns-in-Ok-grammar-clause-few c = omega (arith, c.in-Ok-grammar.ensures.few, fewer c.args.text.now c.deref.result.now c.in-Ok.tokens.items c.deref.ensures.value c.in-Ok.ensures.order)
