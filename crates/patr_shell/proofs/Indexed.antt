@@ -1,12 +1,12 @@
 -- The indexes stay right.
-use Rattle.std.proofs.Common.{◌≡◌, ◌⊎◌, inl, inr, ℕ, zero, suc, ◌+◌, ◌<◌, ◌≤◌, ◌^◌, Bool, true, false, cond, nat_eq, List, [], ◌∷◌, ◌++◌, length, take, get_or, Option, Some, None, slice_get, refl, sym, ap, ◌∙◌, arith, subst, ltb-true, ltb-false, nat_lt, length-append, length-set}
+use Rattle.std.proofs.Common.{◌≡◌, ◌⊎◌, inl, inr, ℕ, suc, ◌<◌, ◌≤◌, ◌^◌, Bool, true, false, cond, nat_eq, List, [], ◌∷◌, ◌++◌, length, take, get_or, Some, slice_get, refl, sym, ap, ◌∙◌, arith, subst, ltb-true, ltb-false, nat_lt, length-append, length-set}
 use Rattle.std.proofs.lemmas.List.{take-append-le, get_or_append_left}
 use Rattle.std.proofs.lemmas.Option.{slice_get-get_or}
 use Rattle.std.proofs.Math.Seq.{take-append_seam, get_or-append_seam}
 use Rattle.patr_shell.specs.declared.edge.Edge.{Edge}
 use Rattle.patr_shell.specs.Edges.{is_passive}
-use Rattle.patr_shell.specs.Lists.{Numbers, numbers, with_number, IsEntered}
-use Rattle.patr_shell.specs.Charted.{starts_at, ends_at, is_partner, partners_in, partners, IsEdgeAfter, AreEdges}
+use Rattle.patr_shell.specs.Lists.{Numbers, with_number, IsEntered}
+use Rattle.patr_shell.specs.Charted.{starts_at, ends_at, is_partner, partners, IsEdgeAfter, AreEdges}
 use Rattle.patr_shell.specs.Numbered.{places}
 use Rattle.patr_shell.specs.Kept.{IsIndexed}
 use Rattle.patr_shell.proofs.Places.{get_cases, partners_last, partners_before, index_added, index_kept, places_length, found}

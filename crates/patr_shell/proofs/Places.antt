@@ -1,10 +1,9 @@
 -- The lists by which partners are found.
-use Rattle.std.proofs.Common.{◌≡◌, ◌⊎◌, inl, inr, ℕ, zero, suc, ◌+◌, ◌<◌, ◌≤◌, Bool, true, false, cond, nat_eq, List, [], ◌∷◌, ◌++◌, length, take, drop, get_or, map, set, Option, Some, None, slice_get, refl, sym, ap, ◌∙◌, arith, subst, eq-eqb, eqb-true, zero-add, append-nil, Vec, Global}
+use Rattle.std.proofs.Common.{◌≡◌, ◌⊎◌, inl, inr, ℕ, zero, suc, ◌+◌, ◌<◌, ◌≤◌, Bool, true, false, cond, nat_eq, List, [], ◌∷◌, ◌++◌, length, take, drop, get_or, set, Option, Some, None, slice_get, refl, sym, ap, ◌∙◌, arith, eq-eqb, eqb-true, zero-add, append-nil, Vec, Global}
 use Rattle.std.proofs.lemmas.List.{take-append-drop, take-append-le, get_or-set_same, get_or-set_other, get_or-map, map-set}
 use Rattle.std.proofs.Math.Seq.{take-append_seam, map-set_same}
 use Rattle.patr_model.proofs.Maps.{some_inj}
 use Rattle.patr_shell.specs.declared.edge.Edge.{Edge}
-use Rattle.patr_shell.specs.Edges.{is_passive}
 use Rattle.patr_shell.specs.Lists.{Numbers, numbers, with_number}
 use Rattle.patr_shell.specs.Charted.{is_partner, partners_in, partners_of, partners}
 use Rattle.patr_shell.specs.Numbered.{places}
@@ -59,7 +58,7 @@ partners_before es e k h = ap (λ o. partners_of (es ++ e ∷ []) k o) (get_left
     go (Some f) = ap (λ l. partners_in l f) (take-append-le k es (e ∷ []) (omega (arith, h)))
 
 -- the lists at a position, with one more edge
-pub index_added : (T : Edge → Bool) (es : List Edge) (e : Edge) (L : Numbers) (at s : ℕ) → at < length L → T e ≡ nat_eq at s → get_or L s [] ≡ places T 0 es
+pub index_added : {X : Type 0} (T : X → Bool) (es : List X) (e : X) (L : Numbers) (at s : ℕ) → at < length L → T e ≡ nat_eq at s → get_or L s [] ≡ places T 0 es
     → get_or (with_number L at (length es)) s [] ≡ places T 0 (es ++ e ∷ [])
 index_added T es e L at s h t is =
     go (nat_eq at s) refl ∙ sym (places_append T 0 es (e ∷ []) ∙ ap (λ b. places T 0 es ++ cond b ((0 + length es) ∷ []) []) t)
@@ -73,7 +72,7 @@ index_added T es e L at s h t is =
         get_or-set_other L at s (get_or L at [] ++ length es ∷ []) [] other
         ∙ (is ∙ (sym (append-nil (places T 0 es)) ∙ ap (λ b. places T 0 es ++ cond b ((0 + length es) ∷ []) []) (sym q)))
 
-pub index_kept : (T : Edge → Bool) (es : List Edge) (e : Edge) (l : List ℕ) → T e ≡ false → l ≡ places T 0 es → l ≡ places T 0 (es ++ e ∷ [])
+pub index_kept : {X : Type 0} (T : X → Bool) (es : List X) (e : X) (l : List ℕ) → T e ≡ false → l ≡ places T 0 es → l ≡ places T 0 (es ++ e ∷ [])
 index_kept T es e l t is = is ∙ (sym (append-nil (places T 0 es)) ∙ sym (places_append T 0 es (e ∷ []) ∙ ap (λ b. places T 0 es ++ cond b ((0 + length es) ∷ []) []) t))
 
 -- the numbers of the lists, after a list was made longer

@@ -1,15 +1,15 @@
 -- The derivation of an edge, by those of the edges that it was made of.
-use Rattle.std.proofs.Common.{◌≡◌, ◌⊎◌, inl, inr, ℕ, zero, suc, ◌+◌, ◌<◌, ◌≤◌, List, [], ◌∷◌, ◌++◌, length, take, drop, get_or, Option, Some, None, slice_get, refl, sym, ap, ◌∙◌, arith, subst, length-append, append_assoc}
+use Rattle.std.proofs.Common.{◌≡◌, ℕ, zero, suc, ◌+◌, ◌<◌, ◌≤◌, List, [], ◌∷◌, ◌++◌, length, take, drop, get_or, Option, Some, None, slice_get, refl, sym, ap, ◌∙◌, arith, subst, length-append}
 use Rattle.std.proofs.lemmas.List.{length-take-le, get_or_append_left, take-append-drop}
 use Rattle.std.proofs.Math.Seq.{get_or-append_seam}
-use Rattle.patr_model.specs.Derivation.{Derivation, Leaf, Begin, Extend, KeyItem, root_item, start, end}
+use Rattle.patr_model.specs.Derivation.{Derivation, Begin, Extend, root_item, start, end, size}
 use Rattle.patr_model.proofs.Maps.{some_inj}
 use Rattle.patr_shell.specs.declared.edge.EdgeKind.{EdgeKind}
 use Rattle.patr_shell.specs.declared.edge.EdgeKind.TheVariants.{Entry, Rule}
 use Rattle.patr_shell.specs.declared.edge.Back.{Back}
 use Rattle.patr_shell.specs.declared.edge.Edge.{Edge}
 use Rattle.patr_shell.specs.Edges.{kind_item}
-use Rattle.patr_shell.specs.Charted.{IsNext, IsAlone, HasGround, IsMadeOf, IsEdgeAfter, AreEdges, alone, derivation_at, derived_by, derived, derivations_from, derivations, tree}
+use Rattle.patr_shell.specs.Charted.{IsNext, IsAlone, HasGround, IsMadeOf, AreEdges, alone, derivation_at, derived_by, derived, derivations_from, derivations, tree}
 
 pub get_below : (es : List Edge) (k : ℕ) (e : Edge) → slice_get es k ≡ Some e → k < length es
 get_below [] k e h = cc
@@ -91,10 +91,11 @@ tree_longer words es all k e b h q =
       made = ground.4;
     }
 
--- the span and the root of an edge are those of its derivation
+-- the span, the size and the root of an edge are those of its derivation
 pub record IsOf (t : Derivation) (e : Edge) : Type 0 where
   pub start : start t ≡ e.start
   pub end : end t ≡ e.end
+  pub size : size t ≡ e.size
   pub root : (to : ℕ) → root_item t to ≡ kind_item e.kind to
 
 next_item : (k l : EdgeKind) (to : ℕ) → IsNext k l → kind_item k to ≡ kind_item l to
@@ -102,9 +103,9 @@ next_item (Entry e) l to h = absurd h
 next_item (Rule r s n) (Entry f) to h = absurd h
 next_item (Rule r s n) (Rule r' s' n') to h = ap (λ x. kind_item (Rule x s n) to) (sym h.0)
 
-alone_of : (k : EdgeKind) (e : Edge) → IsAlone k e → (start (alone k e) ≡ e.start) × (end (alone k e) ≡ e.end) × ((to : ℕ) → root_item (alone k e) to ≡ kind_item k to)
-alone_of (Entry f) e h = (refl, refl, λ to. refl)
-alone_of (Rule r s n) e h = (refl, h.1, λ to. refl)
+alone_of : (k : EdgeKind) (e : Edge) → IsAlone k e → (start (alone k e) ≡ e.start) × (end (alone k e) ≡ e.end) × (size (alone k e) ≡ e.size) × ((to : ℕ) → root_item (alone k e) to ≡ kind_item k to)
+alone_of (Entry f) e h = (refl, refl, sym h, λ to. refl)
+alone_of (Rule r s n) e h = (refl, h.1, sym h.2, λ to. refl)
 
 module _ (words : ℕ) (es : List Edge) (all : AreEdges words es) where
   of_below : (n k : ℕ) (e : Edge) → k < n → slice_get es k ≡ Some e → IsOf (tree es k) e
@@ -116,7 +117,7 @@ module _ (words : ℕ) (es : List Edge) (all : AreEdges words es) where
           let ground = subst (λ o. HasGround (take k es) e o) q (all k e at).ground in
           let f = alone_of e.kind e ground in
           let t = tree_alone es k e at q in
-          record { start = ap start t ∙ f.0; end = ap end t ∙ f.1; root = λ to. ap (λ u. root_item u to) t ∙ f.2 to }
+          record { start = ap start t ∙ f.0; end = ap end t ∙ f.1; size = ap size t ∙ f.2; root = λ to. ap (λ u. root_item u to) t ∙ f.3 to }
       go below (Some b) q =
           let l = tree_longer words es all k e b at q in
           let a = below b.active l.active (omega (arith, h, l.active_before)) l.active_there in
@@ -124,6 +125,7 @@ module _ (words : ℕ) (es : List Edge) (all : AreEdges words es) where
           record {
             start = ap start l.tree ∙ (a.start ∙ sym l.made.start);
             end = ap end l.tree ∙ (p.end ∙ sym l.made.end);
+            size = ap size l.tree ∙ omega (arith, a.size, p.size, l.made.size);
             root = λ to. ap (λ u. root_item u to) l.tree ∙ (a.root to ∙ next_item l.active.kind e.kind to l.made.kind);
           }
 

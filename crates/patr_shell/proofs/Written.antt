@@ -1,8 +1,7 @@
 -- One step of writing a key.
-use Rattle.std.proofs.Common.{◌≡◌, ℕ, zero, suc, ◌+◌, ◌<◌, ◌≤◌, List, [], ◌∷◌, ◌++◌, length, map, reverse, Option, Some, None, slice_get, refl, sym, ap, ◌∙◌, arith, subst, append_assoc, append-nil}
+use Rattle.std.proofs.Common.{◌≡◌, ℕ, ◌+◌, ◌<◌, List, [], ◌∷◌, ◌++◌, length, map, reverse, Some, None, slice_get, refl, sym, ap, ◌∙◌, arith, append_assoc, append-nil}
 use Rattle.std.proofs.lemmas.List.{reverse-append}
-use Rattle.patr_model.specs.Derivation as derivation
-use Rattle.patr_model.specs.Derivation.{Derivation, Leaf, Begin, Extend, root_item, below_key, key, start, end}
+use Rattle.patr_model.specs.Derivation.{key}
 use Rattle.patr_shell.specs.declared.edge.EdgeKind.{EdgeKind}
 use Rattle.patr_shell.specs.declared.edge.EdgeKind.TheVariants.{Entry, Rule}
 use Rattle.patr_shell.specs.declared.edge.Back.{Back}

@@ -1,5 +1,5 @@
 -- A chart: how many words the sentence has, and its edges in the order in which they came.
-use Rattle.std.specs.Prelude.{◌≡◌, ◌⊎◌, ℕ, suc, ◌<◌, ◌≤◌, ◌^◌, Bool, true, false, cond, not, nat_eq, List, [], ◌∷◌, ◌++◌, take, length, map, Option, Some, None, slice_get, get_or}
+use Rattle.std.specs.Prelude.{◌≡◌, ℕ, suc, ◌+◌, ◌≤◌, Bool, true, false, cond, nat_eq, List, [], ◌∷◌, ◌++◌, take, Option, Some, None, slice_get, get_or}
 use Rattle.patr_model.specs.Derivation.{Derivation, Leaf, Begin, Extend}
 use Rattle.patr_shell.specs.declared.edge.EdgeKind.{EdgeKind}
 use Rattle.patr_shell.specs.declared.edge.EdgeKind.TheVariants.{Entry, Rule}
@@ -40,10 +40,10 @@ IsNext (Entry entry) k = ⊥
 IsNext (Rule rule seen slots) (Entry f) = ⊥
 IsNext (Rule rule seen slots) (Rule r s n) = (r ≡ rule) × (s ≡ suc seen) × (n ≡ slots)
 
--- an entry, or a rule without daughters over the empty span
+-- an entry, or a rule without daughters over the empty span: a derivation of one node
 abbrev pub IsAlone : EdgeKind → Edge → Type 0
-IsAlone (Entry entry) e = Unit {0}
-IsAlone (Rule rule seen slots) e = (seen ≡ 0) × (e.start ≡ e.end)
+IsAlone (Entry entry) e = e.size ≡ 1
+IsAlone (Rule rule seen slots) e = (seen ≡ 0) × (e.start ≡ e.end) × (e.size ≡ 1)
 
 -- the edge is made of the active edge a and the passive edge p
 pub record IsMadeOf (e a p : Edge) : Type 0 where
@@ -52,6 +52,7 @@ pub record IsMadeOf (e a p : Edge) : Type 0 where
   pub adjacent : a.end ≡ p.start
   pub start : e.start ≡ a.start
   pub end : e.end ≡ p.end
+  pub size : e.size ≡ a.size + p.size
   pub kind : IsNext a.kind e.kind
 
 abbrev pub HasGround : List Edge → Edge → Option Back → Type 0

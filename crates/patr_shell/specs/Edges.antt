@@ -1,10 +1,9 @@
 -- Edges as lists, and the derivations that they stand for.
-use Rattle.std.specs.Prelude.{◌≡◌, ℕ, suc, ◌<◌, ◌≤◌, Bool, true, false, cond, not, ltb, List, [], ◌∷◌, ◌++◌, take, Option, Some, None, slice_get, get_or}
+use Rattle.std.specs.Prelude.{ℕ, Bool, true, not, ltb}
 use Rattle.patr_model.specs.Derivation as derivation
 use Rattle.patr_model.specs.Derivation.{Derivation, Leaf, Begin, Extend}
 use Rattle.patr_shell.specs.declared.edge.EdgeKind.{EdgeKind}
 use Rattle.patr_shell.specs.declared.edge.EdgeKind.TheVariants.{Entry, Rule}
-use Rattle.patr_shell.specs.declared.edge.Back.{Back}
 use Rattle.patr_shell.specs.declared.edge.Edge.{Edge}
 use Rattle.patr_shell.specs.declared.edge.KeyItem.{KeyItem}
 

@@ -1,5 +1,5 @@
 -- The trees whose keys are still to be written, the next one last.
-use Rattle.std.specs.Prelude.{ℕ, suc, ◌+◌, ◌<◌, List, [], ◌∷◌, ◌++◌, length, map, reverse}
+use Rattle.std.specs.Prelude.{ℕ, suc, ◌+◌, ◌<◌, List, [], ◌∷◌, ◌++◌, map, reverse}
 use Rattle.patr_model.specs.Derivation as derivation
 use Rattle.patr_model.specs.Derivation.{Derivation, Leaf, Begin, Extend, root_item, below_key}
 use Rattle.patr_shell.specs.declared.edge.Edge.{Edge}

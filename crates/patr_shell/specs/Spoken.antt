@@ -1,5 +1,5 @@
 -- What is held of a grammar and a lexicon: the table of texts, and the rules and entries, a variant each.
-use Rattle.std.specs.Prelude.{◌≡◌, ℕ, suc, ◌<◌, Bool, true, false, nat_eq, List, [], ◌∷◌, length, map, Some, slice_get}
+use Rattle.std.specs.Prelude.{ℕ, ◌<◌, ◌^◌, Bool, false, nat_eq, List, [], ◌∷◌, length, map}
 use Rattle.std.specs.List.{AllByRecursion}
 use Rattle.patr_text.specs.declared.symbols.Id.{Id}
 use Rattle.patr_model.specs.Derivation.{Rules, RuleVariant, EntryVariant}
@@ -38,6 +38,10 @@ pub record AreHeldIn (n : ℕ) (rs : List Rule) (es : List Entry) (first : Id) :
   pub rules : AllByRecursion (IsRuleHeld n) rs
   pub entries : AllByRecursion (IsEntryHeld n) es
   pub start : first.0 < n
+
+-- as many daughters as a number of this code can count
+abbrev pub HasFewDaughters : Rule → Type 0
+HasFewDaughters r = length r.daughters.items < 2 ^ 32
 
 -- the variants of a rule with this mother, and those of an entry of this word
 abbrev pub has_mother : ℕ → List RuleVariant → Bool

@@ -1,13 +1,15 @@
 //! The chart: edges, and indexes by which the partners of an edge are found.
-ghost use Rattle.std.specs.Prelude.{◌≡◌, ℕ, ◌+◌, ◌<◌, ◌≤◌, ◌^◌, List, [], ◌∷◌, ◌++◌, Bool, true, false, length, map, set, get_or, slice_get, replicate, Option, Some, None, IfOk, MatchResult, MatchOption, IfSome, IfNone, if◌then◌else◌};
-ghost use Rattle.patr_model.specs.Derivation.{key, start, end};
+ghost use Rattle.std.specs.Prelude.{◌≡◌, ◌+◌, ◌<◌, ◌≤◌, [], ◌∷◌, ◌++◌, length, map, slice_get, Option, Some, None, IfOk, MatchResult, IfSome, IfNone};
+ghost use Rattle.patr_model.specs.Derivation.{key, start, end, size};
 ghost use Rattle.patr_shell.specs.Edges.{item_of};
-ghost use Rattle.patr_shell.specs.Charted.{IsEdgeAfter, AreEdges, partners, tree};
+ghost use Rattle.patr_shell.specs.Charted.{IsEdgeAfter, AreEdges, partners, starts_at, tree};
+ghost use Rattle.patr_shell.specs.Numbered.{places};
 ghost use Rattle.patr_shell.specs.Pending.{whole_key, weights, AreHeld};
-ghost use Rattle.patr_shell.specs.Lists.{numbers, with_number, IsEntered};
+ghost use Rattle.patr_shell.specs.Lists.{numbers, IsEntered};
 
 use crate::Memory;
 use crate::edge::{Edge, KeyItem};
+use crate::lists::{empty_lists, list_at, put};
 use std::alloc::Global;
 use std::marker::Model;
 
@@ -40,38 +42,6 @@ impl Model for Chart {
     ghost view = { charted };
 
     ghost invariant = { IsKept };
-}
-
-// As many empty lists.
-fn empty_lists(alloc: Global, count: usize) -> Result<Vec<Vec<u32>>, Memory>
-    ensures { IfOk result (λ lists. numbers lists.items ≡ replicate count []) }
-{
-    let mut lists = Vec::with_capacity(alloc, count)?;
-    for _ in 0..count {
-        lists.push_reserved(Vec::new(alloc));
-    }
-    Ok(lists)
-}
-
-// The list at a position.
-fn list_at(lists: &Vec<Vec<u32>>, at: usize) -> &[u32]
-    requires { at < length (numbers lists.now.items) }
-    ensures { result.now ≡ get_or (numbers lists.now.items) at [] }
-{
-    &lists[at]
-}
-
-// Puts a number behind a list, or changes nothing where there is no room.
-fn put(lists: &mut Vec<Vec<u32>>, at: usize, number: u32) -> bool
-    requires { at < length (numbers lists.old.items) }
-    ensures { numbers lists.new.items ≡ (if result then with_number (numbers lists.old.items) at number else numbers lists.old.items) }
-{
-    let list = &mut lists[at];
-    if list.reserve(1).is_err() {
-        return false;
-    }
-    list.push_reserved(number);
-    true
 }
 
 // Puts an edge's number where its partners look for it, and answers how many partners it has. None where there is no room, and nothing changed.
@@ -131,8 +101,18 @@ impl Chart {
         ensures there { slice_get self.now.edges k ≡ Some result.now }
         ensures edges { AreEdges self.now.words self.now.edges }
         ensures derived { (start (tree self.now.edges k) ≡ result.now.start) × (end (tree self.now.edges k) ≡ result.now.end) }
+        ensures sized { size (tree self.now.edges k) ≡ result.now.size }
     {
         &self.edges[k as usize]
+    }
+
+    /// An edge by its number, or None where there are not so many.
+    pub fn get(&self, k: u32) -> Option<&Edge>
+        ensures some { IfSome result (λ e. slice_get self.now.edges k ≡ Some e.now) }
+        ensures none { IfNone result (length self.now.edges ≤ k) }
+        ensures edges { AreEdges self.now.words self.now.edges }
+    {
+        self.edges.get(k as usize)
     }
 
     /// Puts an edge behind the others, and answers its number. Gives it back where there is no room.
@@ -164,6 +144,15 @@ impl Chart {
         } else {
             &list_at(&self.starting, edge.end as usize)[..count]
         }
+    }
+
+    /// The passive edges that start at this position, rising.
+    pub fn passive_from(&self, start: u32) -> &[u32]
+        requires { start ≤ self.now.words }
+        ensures numbers { result.now ≡ places (starts_at start) 0 self.now.edges }
+        ensures edges { AreEdges self.now.words self.now.edges }
+    {
+        list_at(&self.starting, start as usize)
     }
 
     // Writes the root of the next tree, or puts the two trees of which it was made in its place.

@@ -39,7 +39,7 @@ impl Edge {
 }
 
 /// A node of a key: 0 for an entry and 1 for a rule, the number, and where the node ends.
-#[derive(Clone, Copy)]
+#[derive(Clone, Copy, PartialEq, Eq, PartialOrd, Ord)]
 pub struct KeyItem {
     pub kind: u8,
     pub number: u32,

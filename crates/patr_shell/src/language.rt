@@ -1,13 +1,19 @@
 //! A grammar and a lexicon as sentences are parsed by them.
-ghost use Rattle.std.specs.Prelude.{◌≡◌, ℕ, suc, ◌+◌, ◌<◌, ◌^◌, List, [], ◌∷◌, length, Some, slice_get, IfOk, IfSome, IfNone, false};
+ghost use Rattle.std.specs.Prelude.{◌≡◌, suc, ◌<◌, ◌^◌, List, length, map, Some, slice_get, IfOk, IfSome, IfNone, false};
 ghost use Rattle.patr_text.specs.Texts.{holds};
-ghost use Rattle.patr_model.specs.Derivation.{RuleVariant, rule_variant, entry_variant};
-ghost use Rattle.patr_shell.specs.Spoken.{rules_of, entry_of, AreHeldIn, has_mother, has_word};
+ghost use Rattle.patr_model.specs.Derivation.{RuleVariant, EntryVariant, rule_variant, entry_variant};
+ghost use Rattle.std.specs.List.{AllByRecursion};
+ghost use Rattle.patr_shell.specs.Spoken.{rules_of, rule_variants, entry_of, entry_variants, IsRuleHeld, IsEntryHeld, AreHeldIn, HasFewDaughters, has_mother, has_word};
+ghost use Rattle.patr_shell.specs.Begun.{HasOneVariant};
+ghost use Rattle.patr_shell.specs.Listed.{AreListed};
+ghost use Rattle.patr_shell.specs.Lists.{numbers};
 ghost use Rattle.patr_shell.specs.Numbered.{places};
+ghost use Rattle.patr_shell.specs.Known.{HasWords};
 
 use crate::Memory;
+use crate::lists::{empty_lists, list_at, put};
 use patr_text::{Id, Symbols};
-use std::alloc::Global;
+use std::alloc::{AllocError, Global};
 use std::marker::Model;
 
 /// A rule by the categories of its constituents.
@@ -24,7 +30,7 @@ pub struct Entry {
     pub category: Id,
 }
 
-/// A grammar's rules and a lexicon's entries, found by category and by word.
+/// A grammar's rules and a lexicon's entries, found by mother and by word.
 #[derive(Drop)]
 pub struct Language {
     symbols: Symbols,
@@ -37,11 +43,45 @@ pub struct Language {
 }
 
 impl Model for Language {
-    ghost use Rattle.patr_shell.specs.Spoken.{Spoken, rules_of};
+    ghost use Rattle.patr_shell.specs.Spoken.{Spoken};
 
     ghost Value = { Spoken };
 
-    ghost view = { λ l. record { texts = l.symbols; rules = rules_of l.rules.items l.entries.items l.start } };
+    ghost use Rattle.patr_shell.specs.Listed.{spoken, KeepsIndexes};
+
+    ghost view = { spoken };
+
+    ghost invariant = { KeepsIndexes };
+}
+
+// By the number of a symbol, the rules with this mother.
+fn by_mother(alloc: Global, rules: &[Rule], count: usize) -> Result<Vec<Vec<u32>>, Memory>
+    requires held { AllByRecursion (IsRuleHeld count) rules.now }
+    requires few { length rules.now < 2 ^ 32 }
+    ensures { IfOk result (λ lists. AreListed (List RuleVariant) has_mother count (map rule_variants rules.now) (numbers lists.items)) }
+{
+    let mut lists = empty_lists(alloc, count)?;
+    for (number, rule) in rules.iter().enumerate() {
+        if !put(&mut lists, rule.mother.0 as usize, number as u32) {
+            return Err(AllocError);
+        }
+    }
+    Ok(lists)
+}
+
+// By the number of a symbol, the entries of this word.
+fn by_word(alloc: Global, entries: &[Entry], count: usize) -> Result<Vec<Vec<u32>>, Memory>
+    requires held { AllByRecursion (IsEntryHeld count) entries.now }
+    requires few { length entries.now < 2 ^ 32 }
+    ensures { IfOk result (λ lists. AreListed (List EntryVariant) has_word count (map entry_variants entries.now) (numbers lists.items)) }
+{
+    let mut lists = empty_lists(alloc, count)?;
+    for (number, entry) in entries.iter().enumerate() {
+        if !put(&mut lists, entry.word.0 as usize, number as u32) {
+            return Err(AllocError);
+        }
+    }
+    Ok(lists)
 }
 
 impl Language {
@@ -56,22 +96,28 @@ impl Language {
         requires held { AreHeldIn (length symbols) rules.items entries.items start }
         requires few_rules { length rules.items < 2 ^ 32 }
         requires few_entries { length entries.items < 2 ^ 32 }
+        requires few_daughters { AllByRecursion HasFewDaughters rules.items }
         ensures texts { IfOk result (λ language. language.texts ≡ symbols) }
         ensures rules { IfOk result (λ language. language.rules ≡ rules_of rules.items entries.items start) }
     {
+        let count = symbols.len() as usize;
+        let by_mother = by_mother(alloc, &rules, count)?;
+        let by_word = by_word(alloc, &entries, count)?;
         Ok(Language {
             symbols,
             rules,
             entries,
             start,
-            by_mother: Vec::new(alloc),
-            by_word: Vec::new(alloc),
+            by_mother,
+            by_word,
         })
     }
 
     /// The start symbol.
     pub fn start(&self) -> Id
-        ensures { result.0 ≡ self.now.rules.start }
+        ensures start { result.0 ≡ self.now.rules.start }
+        ensures held { result.0 < length self.now.texts }
+        ensures single { HasOneVariant self.now.rules }
     {
         self.start
     }
@@ -81,7 +127,7 @@ impl Language {
         requires { mother.0 < length self.now.texts }
         ensures { result.now ≡ places (has_mother mother.0) 0 self.now.rules.rules }
     {
-        &self.by_mother[mother.0 as usize]
+        list_at(&self.by_mother, mother.0 as usize)
     }
 
     /// The number of a rule's daughters.
@@ -98,7 +144,12 @@ impl Language {
         ensures held { result.0 < length self.now.texts }
         ensures category { (v : RuleVariant) × (rule_variant self.now.rules rule 0 ≡ Some v) × (slice_get v.categories slot ≡ Some result.0) }
     {
-        if slot == 0 { self.rules[rule as usize].mother } else { self.rules[rule as usize].daughters[slot as usize - 1] }
+        let rule = &self.rules[rule as usize];
+        if slot == 0 {
+            rule.mother
+        } else {
+            rule.daughters[slot as usize - 1]
+        }
     }
 
     /// An entry by its number.
@@ -115,13 +166,14 @@ impl Language {
         requires { word.0 < length self.now.texts }
         ensures { result.now ≡ places (has_word word.0) 0 self.now.rules.entries }
     {
-        &self.by_word[word.0 as usize]
+        list_at(&self.by_word, word.0 as usize)
     }
 
     /// The number of a text that is held.
     pub fn find(&self, text: &str) -> Option<Id>
         ensures some { IfSome result (λ id. slice_get self.now.texts id.0 ≡ Some text.now) }
         ensures none { IfNone result (holds self.now.texts text.now ≡ false) }
+        ensures entries { HasWords self.now }
     {
         self.symbols.find(text)
     }

@@ -1,5 +1,5 @@
-use Rattle.std.proofs.Common.{◌≡◌, ◌<◌, ◌++◌, ◌∷◌, [], length, slice_get, Some, sym, ap, subst, ◌∙◌, refl}
-use Rattle.patr_shell.specs.Pending.{whole_key, weights, AreHeld}
+use Rattle.std.proofs.Common.{◌∷◌, [], length, subst}
+use Rattle.patr_shell.specs.Pending.{AreHeld}
 use Rattle.patr_shell.proofs.Written.{held_split}
 use Rattle.patr_shell.proofs.chart.Chart.derivation.Goals as goal
 

@@ -1,4 +1,4 @@
-use Rattle.std.proofs.Common.{◌≡◌, ◌<◌, length, take, sym, ap, subst, ◌∙◌, arith}
+use Rattle.std.proofs.Common.{◌<◌, length, take, sym, ap, subst, ◌∙◌, arith}
 use Rattle.patr_shell.specs.Lists.{numbers}
 use Rattle.patr_shell.specs.Charted.{partners}
 use Rattle.patr_shell.proofs.Indexed.{at_k, of_passive, of_active, bound}

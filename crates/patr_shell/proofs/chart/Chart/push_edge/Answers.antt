@@ -1,4 +1,4 @@
-use Rattle.std.proofs.Common.{◌≡◌, ◌<◌, ◌≤◌, ◌++◌, ◌∷◌, [], cond, length, get_or, slice_get, Some, sym, ap, subst, ◌∙◌, arith}
+use Rattle.std.proofs.Common.{◌≡◌, ◌++◌, ◌∷◌, [], length, sym, ap, subst, ◌∙◌, arith}
 use Rattle.patr_shell.specs.Lists.{numbers, IsEntered}
 use Rattle.patr_shell.specs.Charted.{IsEdgeAfter}
 use Rattle.patr_shell.proofs.Indexed.{few_partners, more_indexed}

@@ -1,7 +1,7 @@
 use Rattle.std.proofs.Common.{◌≡◌, ◌<◌, ◌++◌, ◌∷◌, [], length, slice_get, Some, sym, ap, subst, ◌∙◌, refl}
 use Rattle.std.proofs.lemmas.Option.{slice_get-get_or}
 use Rattle.patr_shell.specs.declared.chart.Pending.{Pending}
-use Rattle.patr_shell.specs.Pending.{whole_key, weights, AreHeld}
+use Rattle.patr_shell.specs.Pending.{AreHeld}
 use Rattle.patr_shell.proofs.Trees.{tree_longer, get_below}
 use Rattle.patr_shell.proofs.Written.{root_written, root_falls, pair_written, pair_falls, pair_held}
 use Rattle.patr_shell.proofs.chart.Chart.write_next.Goals as goal

@@ -1,0 +1,62 @@
+-- A text is sent piece by piece.
+use Rattle.std.specs.Result.{OnErr}
+use Rattle.std.proofs.Common.{◌≡◌, ℕ, List, [], ◌++◌, Result, Ok, Err, Option, take, drop, refl, sym, ◌∙◌, ap, append_assoc, append-nil, take-append-drop}
+use Rattle.std.specs.Io.KnownBytes.{Appends, Keeps}
+use Rattle.std.proofs.KnownBytes.{Appends-nil, Appends-trans, Appends-kept}
+use Rattle.patr_shell.specs.Sent.{IsSent, AppendsFront}
+
+pub sent_none : (a : Option (List ℕ)) (text : List ℕ) → IsSent a a text text
+sent_none a text = record { front = []; split = refl; appended = Appends-nil a }
+
+pub sent_more : (a b c : Option (List ℕ)) (text rest after : List ℕ) (n : ℕ) → IsSent a b text rest → Appends b c (take n rest) → after ≡ drop n rest → IsSent a c text after
+sent_more a b c text rest after n sent more is = record {
+  front = sent.front ++ take n rest;
+  split =
+      sent.split
+      ∙ ap (λ (l : List ℕ). sent.front ++ l) (sym (take-append-drop n rest))
+      ∙ sym (append_assoc sent.front (take n rest) (drop n rest))
+      ∙ ap (λ (l : List ℕ). (sent.front ++ take n rest) ++ l) (sym is);
+  appended = Appends-trans a b c sent.front (take n rest) sent.appended more;
+}
+
+pub sent_all : (a b : Option (List ℕ)) (text rest : List ℕ) → IsSent a b text rest → rest ≡ [] → Appends a b text
+sent_all a b text rest sent none = let whole : text ≡ sent.front = sent.split ∙ ap (λ (l : List ℕ). sent.front ++ l) none ∙ append-nil sent.front in rw whole sent.appended
+
+pub sent_kept : (a b c : Option (List ℕ)) (text rest : List ℕ) → IsSent a b text rest → Keeps b c → IsSent a c text rest
+sent_kept a b c text rest sent kept = record { front = sent.front; split = sent.split; appended = Appends-kept a b c sent.front sent.appended kept }
+
+-- what was appended whole, and nothing behind it
+pub sent_whole : (a b : Option (List ℕ)) (text : List ℕ) → Appends a b text → IsSent a b text []
+sent_whole a b text appended = record { front = text; split = sym (append-nil text); appended = appended }
+
+-- a fact that holds anyway
+pub OnErr-always : {T E P : Type 0} (r : Result T E) → P → OnErr r P
+OnErr-always (Ok x) p = tt
+OnErr-always (Err e) p = p
+
+-- a front that follows what was sent whole
+pub front_behind : (a b c : Option (List ℕ)) (text more : List ℕ) → Appends a b text → AppendsFront b c more → AppendsFront a c (text ++ more)
+front_behind a b c text more sent front = (
+  front.0,
+  record {
+    front = text ++ front.1.front;
+    split = ap (λ (l : List ℕ). text ++ l) front.1.split ∙ sym (append_assoc text front.1.front front.0);
+    appended = Appends-trans a b c text front.1.front sent front.1.appended;
+  },
+)
+
+pub front_longer : (a b : Option (List ℕ)) (text more : List ℕ) → AppendsFront a b text → AppendsFront a b (text ++ more)
+front_longer a b text more front = (
+  front.0 ++ more,
+  record {
+    front = front.1.front;
+    split = ap (λ (l : List ℕ). l ++ more) front.1.split ∙ append_assoc front.1.front front.0 more;
+    appended = front.1.appended;
+  },
+)
+
+pub whole_front : (a b : Option (List ℕ)) (text : List ℕ) → Appends a b text → AppendsFront a b text
+whole_front a b text sent = ([], sent_whole a b text sent)
+
+pub no_front : (a : Option (List ℕ)) (text : List ℕ) → AppendsFront a a text
+no_front a text = (text, sent_none a text)

@@ -1,0 +1,11 @@
+-- What a call that gives nothing but success has done.
+use Rattle.std.proofs.Common.{◌≡◌, ℕ, Bool, true, false, cond, List, Result, Ok, Err, IfOk, sym, ap, ◌∙◌}
+use Rattle.std.specs.Result.{is_ok}
+
+pub if_ok_is : {E : Type 0} (r : Result (Unit {0}) E) (now done kept goal : List ℕ) → now ≡ cond (is_ok r) done kept → done ≡ goal → IfOk r (λ _. now ≡ goal)
+if_ok_is (Ok u) now done kept goal h e = h ∙ e
+if_ok_is (Err e) now done kept goal h f = tt
+
+pub if_ok_always : {T E : Type 0} (r : Result T E) (P : Type 0) → P → IfOk r (λ _. P)
+if_ok_always (Ok x) P h = h
+if_ok_always (Err e) P h = tt

@@ -1,0 +1,91 @@
+use Rattle.std.proofs.Common.{◌≡◌, ◌≤◌, ◌-◌, ◌++◌, [], ◌∙◌, ap, sym, subst, refl, arith, length, take, min, length-append, append-nil, ℕ, List}
+use Rattle.std.proofs.lemmas.List.{length-take-le}
+use Rattle.std.specs.Io.KnownBytes.{Consumes}
+use Rattle.std.proofs.KnownBytes.{Consumes-trans, Consumes-kept}
+use Rattle.patr_shell.specs.Answering.{last_line, HasAnswered, HasBegun}
+use Rattle.patr_shell.proofs.Fronts.{whole_front}
+use Rattle.patr_shell.proofs.Replying.{begun_of_answered}
+use Rattle.patr_shell.proofs.Sessions.{Stands, stands_start, stands_free, stands_short}
+use Rattle.patr_shell.proofs.Readings.{stopped, ended_whole, ended_front, begun_read, stands_read, past_whole, past_front}
+use Rattle.patr_shell.proofs.session.run_session.Goals as goal
+
+pub returns-in_default-clause-front : goal.returns-in_default-clause-front
+returns-in_default-clause-front g c =
+    let inv = c.reads.invariant in
+    stopped _ _ _ _ _ _ inv.stands _ (omega (arith, inv.long, inv.within)) _ inv.read
+
+-- ---- the input is at its end
+
+pub returns-in-Ok-answer_last-clause-whole : goal.returns-in-Ok-answer_last-clause-whole
+returns-in-Ok-answer_last-clause-whole g c =
+    let inv = c.reads.invariant in
+    let none = rw c.if-count-eq0.true at c.in-Ok.ensures.bytes.0 in
+    let end = c.in-Ok.ensures.bytes.1 c.if-count-eq0.true (omega arith) in
+    let read = rw append-nil at (Consumes-trans (g.S.Source.left c.args.source.now) (g.S.Source.left c.reads.source) (g.S.Source.left c.read.new.self) inv.bytes [] inv.read none) in
+    let text = rw c.deref.ensures.value at c.in-Ok-answer_last.ensures.text in
+    ended_whole _ _ _ _ _ _ inv.stands _ (omega (arith, inv.long, inv.within)) _ read end _ text
+
+pub returns-in-Ok-answer_last-clause-front : goal.returns-in-Ok-answer_last-clause-front
+returns-in-Ok-answer_last-clause-front g c =
+    let inv = c.reads.invariant in
+    let none = rw c.if-count-eq0.true at c.in-Ok.ensures.bytes.0 in
+    let end = c.in-Ok.ensures.bytes.1 c.if-count-eq0.true (omega arith) in
+    let read = rw append-nil at (Consumes-trans (g.S.Source.left c.args.source.now) (g.S.Source.left c.reads.source) (g.S.Source.left c.read.new.self) inv.bytes [] inv.read none) in
+    let text = rw c.deref.ensures.value at c.in-Ok-answer_last.ensures.text in
+    ended_front _ _ _ _ _ _ inv.stands _ (omega (arith, inv.long, inv.within)) _ read end _ (begun_of_answered _ _ _ _ _ text)
+
+pub returns-in-Err-clause-front : goal.returns-in-Err-clause-front
+returns-in-Err-clause-front g c =
+    let inv = c.reads.invariant in
+    let none = rw c.if-count-eq0.true at c.in-Ok.ensures.bytes.0 in
+    let end = c.in-Ok.ensures.bytes.1 c.if-count-eq0.true (omega arith) in
+    let read = rw append-nil at (Consumes-trans (g.S.Source.left c.args.source.now) (g.S.Source.left c.reads.source) (g.S.Source.left c.read.new.self) inv.bytes [] inv.read none) in
+    let text = rw c.deref.ensures.value at c.in-Err.ensures.front in
+    ended_front _ _ _ _ _ _ inv.stands _ (omega (arith, inv.long, inv.within)) _ read end _ text
+
+-- ---- a piece is read
+
+pub take_piece-requires-clause-free : goal.take_piece-requires-clause-free
+take_piece-requires-clause-free g c = stands_free _ _ _ _ _ _ c.reads.invariant.stands
+
+pub take_piece-requires-clause-short : goal.take_piece-requires-clause-short
+take_piece-requires-clause-short g c = stands_short _ _ _ _ _ _ c.reads.invariant.stands
+
+pub returns-in-Err-take_piece-clause-front : goal.returns-in-Err-take_piece-clause-front
+returns-in-Err-take_piece-clause-front g c =
+    let inv = c.reads.invariant in
+    let is : c.min-within.result ≡ min c.in-Ok.count (16777216 - length inv.bytes) = omega (arith, inv.long) in
+    begun_read _ _ _ _ _ _ inv.stands _ (omega (arith, inv.long, inv.within)) _ _ inv.read c.read.new.buf c.in-Ok.count c.min-within.result c.in-Ok.ensures.bytes.0 (omega (arith, c.in-Ok.ensures.bound)) is _ c.in-Err-take_piece.ensures.front
+
+pub returns-in-Ok-refuse_rest-clause-whole : goal.returns-in-Ok-refuse_rest-clause-whole
+returns-in-Ok-refuse_rest-clause-whole g c =
+    let inv = c.reads.invariant in
+    let is : c.min-within.result ≡ min c.in-Ok.count (16777216 - length inv.bytes) = omega (arith, inv.long) in
+    past_whole _ _ _ _ _ _ inv.stands _ (omega (arith, inv.long, inv.within)) _ _ inv.read c.read.new.buf c.in-Ok.count c.min-within.result c.in-Ok.ensures.bytes.0 (omega (arith, c.in-Ok.ensures.bound)) is _ c.in-Ok-take_piece.ensures.text _ c.in-Ok-take_piece.ensures.held c.if-within-count.true _ c.in-Ok-refuse_rest.ensures.text
+
+pub returns-in-Ok-refuse_rest-clause-front : goal.returns-in-Ok-refuse_rest-clause-front
+returns-in-Ok-refuse_rest-clause-front g c =
+    let inv = c.reads.invariant in
+    let is : c.min-within.result ≡ min c.in-Ok.count (16777216 - length inv.bytes) = omega (arith, inv.long) in
+    past_front _ _ _ _ _ _ inv.stands _ (omega (arith, inv.long, inv.within)) _ _ inv.read c.read.new.buf c.in-Ok.count c.min-within.result c.in-Ok.ensures.bytes.0 (omega (arith, c.in-Ok.ensures.bound)) is _ c.in-Ok-take_piece.ensures.text _ c.in-Ok-take_piece.ensures.held c.if-within-count.true _ (whole_front _ _ _ c.in-Ok-refuse_rest.ensures.text)
+
+pub returns-in-Err-refuse_rest-clause-front : goal.returns-in-Err-refuse_rest-clause-front
+returns-in-Err-refuse_rest-clause-front g c =
+    let inv = c.reads.invariant in
+    let is : c.min-within.result ≡ min c.in-Ok.count (16777216 - length inv.bytes) = omega (arith, inv.long) in
+    past_front _ _ _ _ _ _ inv.stands _ (omega (arith, inv.long, inv.within)) _ _ inv.read c.read.new.buf c.in-Ok.count c.min-within.result c.in-Ok.ensures.bytes.0 (omega (arith, c.in-Ok.ensures.bound)) is _ c.in-Ok-take_piece.ensures.text _ c.in-Ok-take_piece.ensures.held c.if-within-count.true _ c.in-Err-refuse_rest.ensures.front
+
+pub reads-preserved : goal.reads-preserved
+reads-preserved g c =
+    let inv = c.reads.invariant in
+    let is : c.min-within.result ≡ min c.in-Ok.count (16777216 - length inv.bytes) = omega (arith, inv.long) in
+    record {
+      bytes = inv.bytes ++ take c.in-Ok.count c.read.new.buf;
+      read = Consumes-trans _ _ _ _ _ inv.read c.in-Ok.ensures.bytes.0;
+      long = omega (arith, length-append inv.bytes (take c.in-Ok.count c.read.new.buf), inv.long, length-take-le c.in-Ok.count c.read.new.buf (omega (arith, c.in-Ok.ensures.bound)));
+      within = omega (arith, inv.within);
+      stands = stands_read _ _ _ _ _ _ inv.stands _ (omega (arith, inv.long, inv.within)) _ _ inv.read c.read.new.buf c.in-Ok.count c.min-within.result c.in-Ok.ensures.bytes.0 (omega (arith, c.in-Ok.ensures.bound)) is _ c.in-Ok-take_piece.ensures.text _ c.in-Ok-take_piece.ensures.held (omega arith);
+      flushed = λ h. c.in-Ok-take_piece.ensures.flushed (inv.flushed h);
+      source_well = c.in-Ok.ensures.cause.kept ∙ inv.source_well;
+      sink_well = c.in-Ok-take_piece.ensures.cause.kept ∙ inv.sink_well;
+    }

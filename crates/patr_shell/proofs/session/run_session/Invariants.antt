@@ -1,0 +1,24 @@
+use Rattle.std.proofs.Common.{◌≡◌, ◌≤◌, ◌-◌, ℕ, List, length}
+use Rattle.std.specs.Io.KnownBytes.{Consumes}
+use Rattle.patr_io.specs.Causes.{IsFlushed}
+use Rattle.patr_shell.proofs.Sessions.{Stands}
+use Rattle.patr_shell.proofs.session.run_session.Given as goal
+
+-- the session stands behind the bytes that were read, and nothing failed
+abbrev pub invariant-reads : goal.invariant-reads
+invariant-reads g l =
+    let left = g.S.Source.left in
+    let written = g.K.Sink.written in
+    record {
+      bytes : List ℕ;
+      read : Consumes (left l.fn.source) (left l.source) bytes;
+      long : length bytes ≡ l.taken;
+      within : l.taken ≤ 16777216;
+      stands : Stands l.language l.limit bytes l.held.items (written l.fn.sink) (written l.sink);
+      flushed : IsFlushed (written l.fn.sink) (g.K.Sink.flushed l.fn.sink) → IsFlushed (written l.sink) (g.K.Sink.flushed l.sink);
+      source_well : g.S.Source.faults l.source ≡ g.S.Source.faults l.fn.source;
+      sink_well : g.K.Sink.faults l.sink ≡ g.K.Sink.faults l.fn.sink;
+    }
+
+abbrev pub decreases-reads : goal.decreases-reads
+decreases-reads g l = 16777216 - l.taken

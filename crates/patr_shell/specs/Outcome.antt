@@ -1,0 +1,168 @@
+-- What a run writes, how it ends, and why.
+use Rattle.std.specs.Prelude.{◌≡◌, ◌⊎◌, ◌≤◌, ◌<◌, ℕ, List, [], ◌++◌, length, Bool, true, false, Option, Some, None, Result, Err, ⊤, IfSome, codes, string_bytes}
+use Rattle.std.specs.FinMap.{get}
+use Rattle.std.specs.Io.KnownBytes.{Appends}
+use Rattle.patr_io.specs.Causes.{Rose}
+use Rattle.patr_io.specs.Files.{Files, HasFile, HasLongFile, IsAbsent}
+use Rattle.patr_model.specs.Session.{Numbering, AgreesWith, line}
+use Rattle.patr_model.specs.Run.{Ending, Done as IsDone, BadWords as AreBadWords, BadGrammar as IsBadGrammar, BadLexicon as IsBadLexicon, NotRead, InputTooLong as IsInputTooLong, Setup, Session, usage, IsOpening, IsOut}
+use Rattle.patr_model.specs.FirstPass.{PlainRule, ReadsRules, RefusesRules, RefusesEntries, rules_line, entries_line, two_words, first_pass}
+use Rattle.patr_grammar.specs.Reading.{trouble_of}
+use Rattle.patr_shell.specs.LexiconReading.{IsAtLineStart, trouble_of as entries_trouble_of}
+use Rattle.patr_shell.specs.Spoken.{Spoken, grounds, at_limit}
+use Rattle.patr_shell.specs.Sent.{AppendsFront}
+use Rattle.patr_shell.specs.declared.status.GrammarTrouble.{GrammarTrouble}
+use Rattle.patr_shell.specs.declared.status.GrammarTrouble.TheVariants as grammar_trouble
+use Rattle.patr_shell.specs.declared.status.LexiconTrouble.{LexiconTrouble}
+use Rattle.patr_shell.specs.declared.status.LexiconTrouble.TheVariants as lexicon_trouble
+use Rattle.patr_shell.specs.declared.status.Status.{Status}
+use Rattle.patr_shell.specs.declared.status.Status.TheVariants.{Done, BadWords, BadGrammar, BadLexicon, ReadFault, WriteFault, Memory, InputTooLong}
+use Rattle.patr_shell.specs.declared.command_line.FileNames.{FileNames}
+use Rattle.patr_shell.specs.declared.refusal.Refusal.{Refusal}
+use Rattle.patr_shell.specs.declared.refusal.Refusal.TheVariants as refusal
+use Rattle.patr_shell.specs.declared.refusal.OpeningFault.{OpeningFault}
+use Rattle.patr_shell.specs.declared.refusal.OpeningFault.TheVariants as fault
+use Rattle.patr_shell.specs.declared.session.AnswerFault.{AnswerFault}
+use Rattle.patr_shell.specs.declared.session.AnswerFault.TheVariants as answer_fault
+
+-- ---- how a run ends
+
+-- the exit status of a process
+abbrev pub code_of : Status → ℕ
+code_of Done = 0
+code_of BadWords = 1
+code_of (BadGrammar trouble) = 2
+code_of (BadLexicon trouble) = 3
+code_of ReadFault = 4
+code_of WriteFault = 5
+code_of Memory = 6
+code_of InputTooLong = 7
+
+-- no device failed, and memory was found
+abbrev pub is_definite : Status → Bool
+is_definite ReadFault = false
+is_definite WriteFault = false
+is_definite Memory = false
+is_definite status = true
+
+-- the words or a file were refused
+abbrev pub is_refusal : Status → Bool
+is_refusal BadWords = true
+is_refusal (BadGrammar trouble) = true
+is_refusal (BadLexicon trouble) = true
+is_refusal status = false
+
+abbrev pub ended_by_read : Status → Bool
+ended_by_read ReadFault = true
+ended_by_read status = false
+
+abbrev pub ended_by_write : Status → Bool
+ended_by_write WriteFault = true
+ended_by_write status = false
+
+-- the ending that a status stands for, where no device failed and memory was found
+abbrev pub ending_of : Status → Ending
+ending_of Done = IsDone
+ending_of BadWords = AreBadWords
+ending_of (BadGrammar trouble) = IsBadGrammar
+ending_of (BadLexicon trouble) = IsBadLexicon
+ending_of InputTooLong = IsInputTooLong
+ending_of status = NotRead
+
+-- the words or a file don't end a session
+abbrev pub IsSessionStatus : Status → Type 0
+IsSessionStatus status = is_refusal status ≡ false
+
+-- how a run ends where a line was not answered
+abbrev pub answer_status : AnswerFault → Status
+answer_status answer_fault.Write = WriteFault
+answer_status answer_fault.Memory = Memory
+
+-- ---- the words and the files
+
+-- names as they are meant
+abbrev pub setup_of : Option FileNames → Option Setup
+setup_of None = None
+setup_of (Some names) = Some (record { grammar = names.grammar.now; lexicon = names.lexicon.now; limit = 20000 })
+
+-- the file of this name stands for a grammar, where the files are told
+abbrev pub HasGrammar : Option Files → List ℕ → Type 0
+HasGrammar files name = (bytes : List ℕ) × (rules : List PlainRule) × HasFile files name bytes × (length bytes ≤ 4194304) × ReadsRules bytes rules
+
+-- the file of this name stands for no grammar, and why
+abbrev pub HasBadGrammar : Option Files → List ℕ → GrammarTrouble → Type 0
+HasBadGrammar files name grammar_trouble.TooLong = HasLongFile files name 4194304
+HasBadGrammar files name (grammar_trouble.Text cause) = (bytes : List ℕ) × HasFile files name bytes × (length bytes ≤ 4194304) × RefusesRules bytes (trouble_of cause)
+
+-- the file of this name stands for no lexicon, and why
+abbrev pub HasBadLexicon : Option Files → List ℕ → LexiconTrouble → Type 0
+HasBadLexicon files name lexicon_trouble.TooLong = HasLongFile files name 16777216
+HasBadLexicon files name (lexicon_trouble.Text cause) = (bytes : List ℕ) × HasFile files name bytes × (length bytes ≤ 16777216) × RefusesEntries bytes (entries_trouble_of cause)
+
+-- the words name these files
+abbrev pub Names : List (List ℕ) → Setup → Type 0
+Names words setup = two_words words ≡ Some setup
+
+-- a run with these words looks at the file of this name: the grammar's, and the lexicon's where the grammar is one
+pub data LooksAt (words : List (List ℕ)) (files : Option Files) (name : List ℕ) : Type 0 where
+  grammar : (setup : Setup) → Names words setup → name ≡ setup.grammar → LooksAt words files name
+  lexicon : (setup : Setup) → Names words setup → name ≡ setup.lexicon → HasGrammar files setup.grammar → LooksAt words files name
+
+-- the shelf failed at this name, or the files are told and none has it
+abbrev pub CannotLoad : Option Files → ℕ → ℕ → Option (List ℕ) → List ℕ → Type 0
+CannotLoad files before now failed_name name = (Rose before now × (failed_name ≡ Some name)) ⊎ IsAbsent files name
+
+-- the words and the files come to a session with this language, whatever the numbering
+abbrev pub IsOpened : List (List ℕ) → Files → Spoken → Type 0
+IsOpened words files spoken = (N : Numbering) → AgreesWith N spoken.texts → IsOpening first_pass N words (get files) (Session (grounds N spoken) (at_limit 20000))
+
+-- a refusal has its cause
+abbrev pub IsStatusOf : List (List ℕ) → Option Files → Status → Type 0
+IsStatusOf words files BadWords = two_words words ≡ None
+IsStatusOf words files (BadGrammar trouble) = (setup : Setup) × Names words setup × HasBadGrammar files setup.grammar trouble
+IsStatusOf words files (BadLexicon trouble) = (setup : Setup) × Names words setup × HasGrammar files setup.grammar × HasBadLexicon files setup.lexicon trouble
+IsStatusOf words files status = ⊤
+
+-- how a run ends that is refused
+abbrev pub status_of : Refusal → Status
+status_of refusal.Words = BadWords
+status_of (refusal.Grammar trouble) = BadGrammar trouble
+status_of (refusal.Lexicon trouble) = BadLexicon trouble
+
+-- where a lexicon is refused at a line, it is at the line's first column
+abbrev pub HasColumn : Refusal → Type 0
+HasColumn (refusal.Lexicon (lexicon_trouble.Text cause)) = IsAtLineStart cause
+HasColumn r = ⊤
+
+-- the opening fails for its cause: a refusal, or a device or memory, of which others tell
+abbrev pub IsFaultOf : List (List ℕ) → Option Files → OpeningFault → Type 0
+IsFaultOf words files (fault.Refused r) = IsStatusOf words files (status_of r) × HasColumn r
+IsFaultOf words files f = ⊤
+
+abbrev pub is_read_fault : {T : Type 0} → Result T OpeningFault → Bool
+is_read_fault (Err fault.Read) = true
+is_read_fault result = false
+
+-- the line that refuses the words or a file
+abbrev pub refusal_line : Refusal → List ℕ
+refusal_line refusal.Words = usage
+refusal_line (refusal.Grammar grammar_trouble.TooLong) = line (codes "error: grammar: more than 4194304 bytes")
+refusal_line (refusal.Grammar (grammar_trouble.Text cause)) = rules_line (trouble_of cause)
+refusal_line (refusal.Lexicon lexicon_trouble.TooLong) = line (codes "error: lexicon: more than 16777216 bytes")
+refusal_line (refusal.Lexicon (lexicon_trouble.Text cause)) = entries_line (entries_trouble_of cause)
+
+-- how a run ends whose refusal is to be written: by it, or since it could not be
+abbrev pub IsEndOf : Refusal → Status → Type 0
+IsEndOf r status = (status ≡ status_of r) ⊎ (status ≡ WriteFault) ⊎ (status ≡ Memory)
+
+-- ---- what a run writes
+
+-- the text of a run with this status, whatever the numbering, was written
+pub record HasWritten (words : List (List ℕ)) (files : Files) (input : List ℕ) (status : Status) (old new : Option (List ℕ)) : Type 0 where
+  pub text : List ℕ
+  pub is_out : (N : Numbering) → IsOut first_pass N words (get files) input text (ending_of status)
+  pub appended : Appends old new text
+
+-- a front of each text of a run was written
+abbrev pub HasBegunRun : List (List ℕ) → Files → List ℕ → Option (List ℕ) → Option (List ℕ) → Type 0
+HasBegunRun words files input old new = (N : Numbering) (text : List ℕ) (ending : Ending) → IsOut first_pass N words (get files) input text ending → AppendsFront old new text
