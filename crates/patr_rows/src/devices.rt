@@ -3,7 +3,7 @@
 use patr_io::{MemoryShelf, MemorySink, MemorySource};
 use patr_shell::{OpenGate, Status, run};
 use std::alloc::Global;
-use std::process::Wait;
+use std::sync::Wait;
 use std::test::Fail;
 use std::thread::Threads;
 
@@ -41,7 +41,10 @@ fn one(alloc: Global, number: u64) -> Result<Vec<u64>, Fail> {
 }
 
 fn file(alloc: Global, name: &str, bytes: &[u8]) -> Result<(String, Vec<u8>), Fail> {
-    Ok((String::from_str(alloc, name)?, Vec::from_slice(alloc, bytes)?))
+    Ok((
+        String::from_str(alloc, name)?,
+        Vec::from_slice(alloc, bytes)?,
+    ))
 }
 
 /// Runs with these words, and says whether the status has this code and exactly this was written.
@@ -69,7 +72,13 @@ pub fn gives<R: Threads + Wait + Sync>(
     );
     let mut sink = MemorySink::new(alloc, 4096, most, one(alloc, setting.fail_write)?)?;
     let status = run(
-        rt, alloc, &owned, &mut shelf, &mut source, &mut sink, &OpenGate,
+        rt,
+        alloc,
+        &owned,
+        &mut shelf,
+        &mut source,
+        &mut sink,
+        &OpenGate,
     );
     Ok(status.code() == code && sink.taken() == written)
 }

@@ -21,16 +21,112 @@ fn each_device_fails_once(rt: HostRuntime) -> Result<(), Fail> {
     let fine = well(GRAMMAR, LEXICON, INPUT);
     let alloc = rt.alloc();
     // the grammar's load and the lexicon's
-    assert!(rt; gives(&rt, alloc, &FILES, Setting { fail_load: 1, ..fine }, 4, b"")?);
-    assert!(rt; gives(&rt, alloc, &FILES, Setting { fail_load: 2, ..fine }, 4, b"")?);
+    assert!(rt;
+        gives(
+            &rt,
+            alloc,
+            &FILES,
+            Setting {
+                fail_load: 1,
+                ..fine
+            },
+            4,
+            b""
+        )?
+    );
+    assert!(rt;
+        gives(
+            &rt,
+            alloc,
+            &FILES,
+            Setting {
+                fail_load: 2,
+                ..fine
+            },
+            4,
+            b""
+        )?
+    );
     // the first read, and the one that would find the end
-    assert!(rt; gives(&rt, alloc, &FILES, Setting { fail_read: 1, ..fine }, 4, b"")?);
-    assert!(rt; gives(&rt, alloc, &FILES, Setting { fail_read: 2, ..fine }, 4, REPLIES)?);
+    assert!(rt;
+        gives(
+            &rt,
+            alloc,
+            &FILES,
+            Setting {
+                fail_read: 1,
+                ..fine
+            },
+            4,
+            b""
+        )?
+    );
+    assert!(rt;
+        gives(
+            &rt,
+            alloc,
+            &FILES,
+            Setting {
+                fail_read: 2,
+                ..fine
+            },
+            4,
+            REPLIES
+        )?
+    );
     // a reply's write and its flush: the second reply's write is the third call
-    assert!(rt; gives(&rt, alloc, &FILES, Setting { fail_write: 1, ..fine }, 5, b"")?);
-    assert!(rt; gives(&rt, alloc, &FILES, Setting { fail_write: 2, ..fine }, 5, REPLY)?);
-    assert!(rt; gives(&rt, alloc, &FILES, Setting { fail_write: 3, ..fine }, 5, REPLY)?);
-    assert!(rt; gives(&rt, alloc, &FILES, Setting { fail_write: 4, ..fine }, 5, REPLIES)?);
+    assert!(rt;
+        gives(
+            &rt,
+            alloc,
+            &FILES,
+            Setting {
+                fail_write: 1,
+                ..fine
+            },
+            5,
+            b""
+        )?
+    );
+    assert!(rt;
+        gives(
+            &rt,
+            alloc,
+            &FILES,
+            Setting {
+                fail_write: 2,
+                ..fine
+            },
+            5,
+            REPLY
+        )?
+    );
+    assert!(rt;
+        gives(
+            &rt,
+            alloc,
+            &FILES,
+            Setting {
+                fail_write: 3,
+                ..fine
+            },
+            5,
+            REPLY
+        )?
+    );
+    assert!(rt;
+        gives(
+            &rt,
+            alloc,
+            &FILES,
+            Setting {
+                fail_write: 4,
+                ..fine
+            },
+            5,
+            REPLIES
+        )?
+    );
     Ok(())
 }
 
@@ -42,7 +138,19 @@ fn pieces_of_a_byte_change_nothing(rt: HostRuntime) -> Result<(), Fail> {
     };
     let alloc = rt.alloc();
     assert!(rt; gives(&rt, alloc, &FILES, small, 0, REPLIES)?);
-    assert!(rt; gives(&rt, alloc, &FILES, Setting { fail_write: 5, ..small }, 5, b"anal")?);
+    assert!(rt;
+        gives(
+            &rt,
+            alloc,
+            &FILES,
+            Setting {
+                fail_write: 5,
+                ..small
+            },
+            5,
+            b"anal"
+        )?
+    );
     Ok(())
 }
 
@@ -58,11 +166,38 @@ fn long_files_and_inputs_are_refused(rt: HostRuntime) -> Result<(), Fail> {
     let alloc = rt.alloc();
     let long = filled(alloc, b'\n', 16_777_217)?;
     let grammar = well(&long[..4_194_305], LEXICON, INPUT);
-    assert!(rt; gives(&rt, alloc, &FILES, grammar, 2, b"error: grammar: more than 4194304 bytes\n")?);
+    assert!(rt;
+        gives(
+            &rt,
+            alloc,
+            &FILES,
+            grammar,
+            2,
+            b"error: grammar: more than 4194304 bytes\n"
+        )?
+    );
     let lexicon = well(GRAMMAR, &long, INPUT);
-    assert!(rt; gives(&rt, alloc, &FILES, lexicon, 3, b"error: lexicon: more than 16777216 bytes\n")?);
+    assert!(rt;
+        gives(
+            &rt,
+            alloc,
+            &FILES,
+            lexicon,
+            3,
+            b"error: lexicon: more than 16777216 bytes\n"
+        )?
+    );
     let input = well(GRAMMAR, LEXICON, &long);
-    assert!(rt; gives(&rt, alloc, &FILES, input, 7, b"error: input longer than 16777216 bytes\n")?);
+    assert!(rt;
+        gives(
+            &rt,
+            alloc,
+            &FILES,
+            input,
+            7,
+            b"error: input longer than 16777216 bytes\n"
+        )?
+    );
     let exact = well(GRAMMAR, LEXICON, &long[..16_777_216]);
     assert!(rt; gives(&rt, alloc, &FILES, exact, 0, b"")?);
     Ok(())
@@ -80,6 +215,15 @@ fn long_lines_are_bad_commands(rt: HostRuntime) -> Result<(), Fail> {
     longer[0] = b'a';
     longer.extend_from_slice(b"\na\n")?;
     let past = well(GRAMMAR, LEXICON, &longer);
-    assert!(rt; gives(&rt, alloc, &FILES, past, 0, b"error: bad command\nanalyses 1\n1 (S (A a))\n")?);
+    assert!(rt;
+        gives(
+            &rt,
+            alloc,
+            &FILES,
+            past,
+            0,
+            b"error: bad command\nanalyses 1\n1 (S (A a))\n"
+        )?
+    );
     Ok(())
 }

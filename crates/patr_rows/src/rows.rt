@@ -12,8 +12,11 @@ const ANIMALS: &[u8] = b"\\w the\n\\c Det\n\\w dog\n\\c N\n\\w dogs\n\\c N\n\\w 
 const ATTACHMENT: &[u8] =
     b"Rule S -> NP VP Rule VP -> V NP Rule VP -> VP_1 PP Rule NP -> NP_1 PP Rule PP -> P NP";
 
-const PARKS: &[u8] = b"\\w I\n\\c NP\n\\w saw\n\\c V\n\\w men\n\\c NP\n\\w in\n\\c P\n\\w parks\n\\c NP\n\\w with\n\\c P\n\\w dogs\n\\c NP";
+const PARKS: &[u8] =
+    b"\\w I\n\\c NP\n\\w saw\n\\c V\n\\w men\n\\c NP\n\\w in\n\\c P\n\\w parks\n\\c NP\n\\w with\n\\c P\n\\w dogs\n\\c NP";
 
+/// Two files, an input, and what a run over them writes.
+#[derive(Clone, Copy)]
 struct Row {
     grammar: &'static [u8],
     lexicon: &'static [u8],
@@ -78,7 +81,10 @@ fn sentences_are_answered(rt: HostRuntime) -> Result<(), Fail> {
     let alloc = rt.alloc();
     for (k, row) in rows.iter().enumerate() {
         let setting = well(row.grammar, row.lexicon, row.input);
-        assert!(rt; gives(&rt, alloc, &FILES, setting, row.code, row.written)?, "row {k}");
+        assert!(rt;
+            gives(&rt, alloc, &FILES, setting, row.code, row.written)?,
+            "row {k}"
+        );
     }
     Ok(())
 }
@@ -139,7 +145,10 @@ fn files_are_refused(rt: HostRuntime) -> Result<(), Fail> {
     let alloc = rt.alloc();
     for (k, row) in rows.iter().enumerate() {
         let setting = well(row.grammar, row.lexicon, row.input);
-        assert!(rt; gives(&rt, alloc, &FILES, setting, row.code, row.written)?, "row {k}");
+        assert!(rt;
+            gives(&rt, alloc, &FILES, setting, row.code, row.written)?,
+            "row {k}"
+        );
     }
     Ok(())
 }

@@ -22,7 +22,7 @@ use Rattle.patr_shell.specs.declared.language.Entry.{Entry}
 use Rattle.patr_shell.specs.LexiconReading.{IsEntryOf}
 use Rattle.patr_shell.specs.Spoken.{Spoken, rule_categories, rule_variants, entry_variants, rules_of, IsRuleHeld, IsEntryHeld, AreHeldIn, grounds, at_limit}
 use Rattle.patr_shell.specs.Loaded.{text_categories, ReadsGrammar, ReadsLexicon}
-use Rattle.patr_shell.specs.Outcome.{Names, IsOpened, HasGrammar}
+use Rattle.patr_shell.specs.Outcome.{Names, IsOpened, HasGrammar, HaveSession}
 use Rattle.patr_shell.proofs.Few.{few_rules, few_entries}
 
 abbrev rules_with : List (List RuleVariant) → List (List EntryVariant) → ℕ → Rules
@@ -205,3 +205,9 @@ has_grammar files name table grammar g = (g.bytes, g.stands.0, g.file, g.short, 
 pub first_few : length first_texts ≡ 38
 unfolding first_texts
 first_few = refl
+
+-- what was opened stands on both files
+pub have_session : (files : Option Files) (words : List (List ℕ)) (setup : Setup) → Names words setup → (first second : List (List ℕ)) (grammar : Grammar) (entries : List Entry)
+    → ReadsGrammar files setup.grammar first grammar → ReadsLexicon files setup.lexicon second entries → HaveSession words files
+have_session files words setup named first second grammar entries g l =
+    (setup, named, (g.bytes, g.stands.0, g.file, g.short, g.stands.1), (l.bytes, l.stands.0, l.file, l.short, l.stands.1))

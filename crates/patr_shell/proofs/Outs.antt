@@ -12,7 +12,7 @@ use Rattle.patr_model.specs.FirstPass.{first_pass, rules_line, entries_line}
 use Rattle.patr_grammar.specs.Reading.{trouble_of}
 use Rattle.patr_shell.specs.LexiconReading.{trouble_of as entries_trouble_of}
 use Rattle.patr_shell.specs.declared.status.Status.{Status}
-use Rattle.patr_shell.specs.declared.status.Status.TheVariants.{WriteFault, Memory}
+use Rattle.patr_shell.specs.declared.status.Status.TheVariants.{Done, BadWords, BadGrammar, BadLexicon, ReadFault, WriteFault, Memory, InputTooLong}
 use Rattle.patr_shell.specs.declared.status.GrammarTrouble.TheVariants as grammar_trouble
 use Rattle.patr_shell.specs.declared.status.LexiconTrouble.TheVariants as lexicon_trouble
 use Rattle.patr_shell.specs.declared.refusal.Refusal.{Refusal}
@@ -20,9 +20,9 @@ use Rattle.patr_shell.specs.declared.refusal.Refusal.TheVariants.{Words, Grammar
 use Rattle.patr_shell.specs.Spoken.{Spoken, grounds, at_limit}
 use Rattle.patr_shell.specs.Sent.{AppendsFront}
 use Rattle.patr_shell.specs.Answering.{HasWrittenSession, HasBegunSession}
-use Rattle.patr_shell.specs.Outcome.{is_definite, ending_of, IsStatusOf, status_of, refusal_line, IsOpened, IsEndOf, HasWritten, HasBegunRun}
+use Rattle.patr_shell.specs.Outcome.{is_definite, ending_of, HaveSession, IsSessionStatus, IsStatusOf, status_of, refusal_line, IsOpened, IsEndOf, HasWritten, HasBegunRun}
 use Rattle.patr_shell.proofs.Fronts.{no_front}
-use Rattle.patr_shell.proofs.Laws.{one_opening, numbered_tables, any_numbering}
+use Rattle.patr_shell.proofs.RunLaws.{one_opening, numbered_tables, any_numbering}
 
 -- the bytes of a longer file
 long_file : (o : Option (List ℕ)) (most : ℕ) → IsSomeAnd o (λ bytes. most < length bytes) → (bytes : List ℕ) × (o ≡ Some bytes) × (most < length bytes)
@@ -162,3 +162,14 @@ module _ (words : List (List ℕ)) (files : Option Files) (left : Option (List �
 -- nothing is written
 pub nothing_begun : (words : List (List ℕ)) (files : Option Files) (left : Option (List ℕ)) (a : Option (List ℕ)) → IfSome files (λ f. IfSome left (λ input. HasBegunRun words f input a a))
 nothing_begun words files left a = told words files left a a (λ f input. HasBegunRun words f input a a) (λ f is input N text ending out. no_front a text)
+
+-- a session's status has its cause
+pub session_cause : (words : List (List ℕ)) (files : Option Files) (status : Status) → HaveSession words files → IsSessionStatus status → IsStatusOf words files status
+session_cause words files Done have is = have
+session_cause words files BadWords have is = cc
+session_cause words files (BadGrammar trouble) have is = cc
+session_cause words files (BadLexicon trouble) have is = cc
+session_cause words files ReadFault have is = (have.0, have.1)
+session_cause words files WriteFault have is = tt
+session_cause words files Memory have is = tt
+session_cause words files InputTooLong have is = have

@@ -6,7 +6,7 @@ use Rattle.patr_io.specs.Causes.{Rose}
 use Rattle.patr_io.specs.Files.{Files, HasFile, HasLongFile, IsAbsent}
 use Rattle.patr_model.specs.Session.{Numbering, AgreesWith, line}
 use Rattle.patr_model.specs.Run.{Ending, Done as IsDone, BadWords as AreBadWords, BadGrammar as IsBadGrammar, BadLexicon as IsBadLexicon, NotRead, InputTooLong as IsInputTooLong, Setup, Session, usage, IsOpening, IsOut}
-use Rattle.patr_model.specs.FirstPass.{PlainRule, ReadsRules, RefusesRules, RefusesEntries, rules_line, entries_line, two_words, first_pass}
+use Rattle.patr_model.specs.FirstPass.{PlainRule, PlainEntry, ReadsRules, ReadsEntries, RefusesRules, RefusesEntries, rules_line, entries_line, two_words, first_pass}
 use Rattle.patr_grammar.specs.Reading.{trouble_of}
 use Rattle.patr_shell.specs.LexiconReading.{IsAtLineStart, trouble_of as entries_trouble_of}
 use Rattle.patr_shell.specs.Spoken.{Spoken, grounds, at_limit}
@@ -89,6 +89,10 @@ setup_of (Some names) = Some (record { grammar = names.grammar.now; lexicon = na
 abbrev pub HasGrammar : Option Files → List ℕ → Type 0
 HasGrammar files name = (bytes : List ℕ) × (rules : List PlainRule) × HasFile files name bytes × (length bytes ≤ 4194304) × ReadsRules bytes rules
 
+-- the file of this name stands for a lexicon, where the files are told
+abbrev pub HasLexicon : Option Files → List ℕ → Type 0
+HasLexicon files name = (bytes : List ℕ) × (entries : List PlainEntry) × HasFile files name bytes × (length bytes ≤ 16777216) × ReadsEntries bytes entries
+
 -- the file of this name stands for no grammar, and why
 abbrev pub HasBadGrammar : Option Files → List ℕ → GrammarTrouble → Type 0
 HasBadGrammar files name grammar_trouble.TooLong = HasLongFile files name 4194304
@@ -116,12 +120,21 @@ CannotLoad files before now failed_name name = (Rose before now × (failed_name 
 abbrev pub IsOpened : List (List ℕ) → Files → Spoken → Type 0
 IsOpened words files spoken = (N : Numbering) → AgreesWith N spoken.texts → IsOpening first_pass N words (get files) (Session (grounds N spoken) (at_limit 20000))
 
--- a refusal has its cause
+-- the words name two files that a session stands on
+abbrev pub HaveSession : List (List ℕ) → Option Files → Type 0
+HaveSession words files = (setup : Setup) × Names words setup × HasGrammar files setup.grammar × HasLexicon files setup.lexicon
+
+-- A status has its cause: for BadWords the words are no names, for every other but want of memory and a fault of writing they are,
+-- for a refusal the file has the trouble that the status carries, and a session has both files.
 abbrev pub IsStatusOf : List (List ℕ) → Option Files → Status → Type 0
+IsStatusOf words files Done = HaveSession words files
 IsStatusOf words files BadWords = two_words words ≡ None
 IsStatusOf words files (BadGrammar trouble) = (setup : Setup) × Names words setup × HasBadGrammar files setup.grammar trouble
 IsStatusOf words files (BadLexicon trouble) = (setup : Setup) × Names words setup × HasGrammar files setup.grammar × HasBadLexicon files setup.lexicon trouble
-IsStatusOf words files status = ⊤
+IsStatusOf words files ReadFault = (setup : Setup) × Names words setup
+IsStatusOf words files WriteFault = ⊤
+IsStatusOf words files Memory = ⊤
+IsStatusOf words files InputTooLong = HaveSession words files
 
 -- how a run ends that is refused
 abbrev pub status_of : Refusal → Status
@@ -134,10 +147,11 @@ abbrev pub HasColumn : Refusal → Type 0
 HasColumn (refusal.Lexicon (lexicon_trouble.Text cause)) = IsAtLineStart cause
 HasColumn r = ⊤
 
--- the opening fails for its cause: a refusal, or a device or memory, of which others tell
+-- the opening fails for its cause
 abbrev pub IsFaultOf : List (List ℕ) → Option Files → OpeningFault → Type 0
 IsFaultOf words files (fault.Refused r) = IsStatusOf words files (status_of r) × HasColumn r
-IsFaultOf words files f = ⊤
+IsFaultOf words files fault.Read = IsStatusOf words files ReadFault
+IsFaultOf words files fault.Memory = ⊤
 
 abbrev pub is_read_fault : {T : Type 0} → Result T OpeningFault → Bool
 is_read_fault (Err fault.Read) = true

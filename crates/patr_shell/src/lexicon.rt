@@ -5,7 +5,7 @@ ghost use Rattle.patr_model.specs.FirstPass.{field};
 ghost use Rattle.patr_text.specs.Texts.{Extends};
 ghost use Rattle.patr_shell.specs.LexiconReading.{StandsFor, IsRefusedFor, IsFirstLine, is_word, IsFirstEntry, StopsThere};
 
-use crate::Entry;
+use crate::language::Entry;
 use patr_text::{Fault, Symbols};
 use std::alloc::Global;
 use thiserror::Error;

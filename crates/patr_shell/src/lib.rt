@@ -1,4 +1,7 @@
 //! A session over a grammar and a lexicon, and the run of the program.
+//!
+//! `run` is the one call: it takes the words of the command line, the files, the input and the output, and its
+//! contract says what it writes and how it ends.
 #![tactic(auto)]
 
 mod analyses;
@@ -24,19 +27,13 @@ mod task;
 mod tree;
 mod words;
 
-pub use analyses::analyses_of;
-pub use chart::Chart;
-pub use closing::close;
-pub use edge::{Back, Edge, EdgeKind, KeyItem};
+pub(crate) use chart::Chart;
 pub use gate::{Gate, OpenGate};
-pub use language::{Entry, Language, Rule};
-pub use lexicon::{LexiconCause, read_lexicon};
-pub use opening::open;
-pub use reply::{line_reply, sentence_reply};
+pub(crate) use language::Language;
+pub use lexicon::LexiconCause;
+pub use patr_grammar::GrammarCause;
 pub use running::run;
-pub use session::run_session;
 pub use status::{GrammarTrouble, LexiconTrouble, Status};
-pub use tree::write_tree;
 
 /// Want of memory.
-pub type Memory = std::alloc::AllocError;
+pub(crate) type Memory = std::alloc::AllocError;

@@ -4,7 +4,7 @@ ghost use Rattle.std.specs.Bool.{OnFalse};
 ghost use Rattle.patr_model.specs.Table.{IsTable};
 ghost use Rattle.patr_shell.specs.Spoken.{rule_categories};
 ghost use Rattle.patr_shell.specs.Loaded.{text_categories};
-ghost use Rattle.patr_shell.specs.Outcome.{IsOpened, IsFaultOf, LooksAt, CannotLoad, is_read_fault};
+ghost use Rattle.patr_shell.specs.Outcome.{IsOpened, HaveSession, IsFaultOf, LooksAt, CannotLoad, is_read_fault};
 
 use crate::Memory;
 use crate::command_line::file_names;
@@ -49,6 +49,7 @@ pub fn open<F: Shelf>(
     shelf: &mut F,
 ) -> Result<Language, OpeningFault>
     ensures opened { IfOk result (λ language. IfSome (F.files shelf.old) (λ files. IsOpened (map string_bytes words.now) files language)) }
+    ensures found { IfOk result (λ _. HaveSession (map string_bytes words.now) (F.files shelf.old)) }
     ensures table { IfOk result (λ language. IsTable language.texts) }
     ensures fault { IfErr result (λ fault. IsFaultOf (map string_bytes words.now) (F.files shelf.old) fault) }
     ensures read { IfErr result (λ fault. fault ≡ OpeningFault.Read → (name : List ℕ) × LooksAt (map string_bytes words.now) (F.files shelf.old) name

@@ -4,8 +4,8 @@ use Rattle.patr_model.specs.Run.{Setup}
 use Rattle.patr_model.specs.FirstPass.{two_words}
 use Rattle.patr_model.specs.Table.{IsTable}
 use Rattle.patr_shell.specs.Outcome.{LooksAt, grammar, lexicon}
-use Rattle.patr_shell.proofs.Meanings.{are_held, are_few_rules, are_few_entries, is_opened, has_grammar, first_few}
 use Rattle.patr_shell.proofs.FewDaughters.{are_few_daughters}
+use Rattle.patr_shell.proofs.Meanings.{are_held, are_few_rules, are_few_entries, is_opened, has_grammar, have_session, first_few}
 use Rattle.patr_shell.proofs.opening.open.Goals as goal
 
 pub load_grammar-requires : goal.load_grammar-requires
@@ -52,3 +52,9 @@ returns-clause-table g c = subst IsTable (sym c.in_ok-language.ensures.texts) c.
 
 pub build-requires-clause-few_daughters : goal.build-requires-clause-few_daughters
 build-requires-clause-few_daughters g c = are_few_daughters _ _ _ _ _ c.in_ok-rules.ensures c.in_ok-grammar.ensures.grammar
+
+pub returns-clause-found : goal.returns-clause-found
+returns-clause-found g c =
+    let read = rw c.load_grammar.ensures.files at c.in_ok-entries.ensures.lexicon in
+    let setup : Setup = record { grammar = c.in-Some.names.grammar.now; lexicon = c.in-Some.names.lexicon.now; limit = 20000 } in
+    have_session _ (map string_bytes c.args.words.now) setup (sym c.in-Some.ensures) _ _ _ _ c.in_ok-grammar.ensures.grammar read

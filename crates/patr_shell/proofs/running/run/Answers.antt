@@ -1,5 +1,5 @@
 use Rattle.std.proofs.Common.{map, string_bytes}
-use Rattle.patr_shell.proofs.Outs.{refused_told, refused_begun, session_told, session_begun, nothing_begun}
+use Rattle.patr_shell.proofs.Outs.{refused_told, refused_begun, session_told, session_begun, session_cause, nothing_begun}
 use Rattle.patr_shell.proofs.running.run.Goals as goal
 
 -- ---- a session
@@ -9,6 +9,9 @@ returns-in-Ok-clause-whole g c = session_told (map string_bytes c.args.words.now
 
 pub returns-in-Ok-clause-front : goal.returns-in-Ok-clause-front
 returns-in-Ok-clause-front g c = session_begun (map string_bytes c.args.words.now) _ _ _ _ c.in-Ok.language c.in-Ok.ensures.opened c.in-Ok.ensures.table c.run_session.ensures.front
+
+pub returns-in-Ok-clause-causes : goal.returns-in-Ok-clause-causes
+returns-in-Ok-clause-causes g c = session_cause (map string_bytes c.args.words.now) _ _ c.in-Ok.ensures.found c.run_session.ensures.status
 
 -- ---- a refusal
 

@@ -5,8 +5,8 @@ use Rattle.std.proofs.KnownBytes.{Consumes-trans, Consumes-kept}
 use Rattle.patr_shell.specs.Answering.{last_line, HasAnswered, HasBegun}
 use Rattle.patr_shell.proofs.Fronts.{whole_front}
 use Rattle.patr_shell.proofs.Replying.{begun_of_answered}
-use Rattle.patr_shell.proofs.Sessions.{Stands, stands_start, stands_free, stands_short}
-use Rattle.patr_shell.proofs.Readings.{stopped, ended_whole, ended_front, begun_read, stands_read, past_whole, past_front}
+use Rattle.patr_shell.proofs.SessionStanding.{Stands, stands_start, stands_free, stands_short}
+use Rattle.patr_shell.proofs.SessionReads.{stopped, ended_whole, ended_front, begun_read, stands_read, past_whole, past_front}
 use Rattle.patr_shell.proofs.session.run_session.Goals as goal
 
 pub returns-in_default-clause-front : goal.returns-in_default-clause-front

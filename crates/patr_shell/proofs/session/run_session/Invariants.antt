@@ -1,7 +1,7 @@
 use Rattle.std.proofs.Common.{◌≡◌, ◌≤◌, ◌-◌, ℕ, List, length}
 use Rattle.std.specs.Io.KnownBytes.{Consumes}
 use Rattle.patr_io.specs.Causes.{IsFlushed}
-use Rattle.patr_shell.proofs.Sessions.{Stands}
+use Rattle.patr_shell.proofs.SessionStanding.{Stands}
 use Rattle.patr_shell.proofs.session.run_session.Given as goal
 
 -- the session stands behind the bytes that were read, and nothing failed

@@ -14,7 +14,7 @@ use Rattle.patr_shell.specs.Answering.{AreReplies, HasAnswered, HasBegun, HasWri
 use Rattle.patr_shell.proofs.Cuts.{lines_of_two, lines_are}
 use Rattle.patr_shell.proofs.Ends.{take_two}
 use Rattle.patr_shell.proofs.Fronts.{front_longer, front_behind}
-use Rattle.patr_shell.proofs.Laws.{sentences_begin}
+use Rattle.patr_shell.proofs.RunLaws.{sentences_begin}
 
 -- ---- what is told of an input
 

@@ -8,8 +8,8 @@ use Rattle.patr_model.specs.Run.{Done, InputTooLong}
 use Rattle.patr_shell.specs.Spoken.{Spoken}
 use Rattle.patr_shell.specs.Sent.{AppendsFront}
 use Rattle.patr_shell.specs.Answering.{last_piece, last_line, too_long_line, HasAnswered, HasBegun, HasWrittenSession, HasBegunSession}
-use Rattle.patr_shell.proofs.Sessions.{Stands, stands_piece, stands_end, begun_piece, begun_end, begun_so_far}
-use Rattle.patr_shell.proofs.Texts.{told, told_all, take_take, most, within_of, within_piece, at_limit_of, past_limit, front_within, front_whole, front_past, written_whole, written_past}
+use Rattle.patr_shell.proofs.SessionStanding.{Stands, stands_piece, stands_end, begun_piece, begun_end, begun_so_far}
+use Rattle.patr_shell.proofs.SessionTexts.{told, told_all, take_take, most, within_of, within_piece, at_limit_of, past_limit, front_within, front_whole, front_past, written_whole, written_past}
 
 module _ (spoken : Spoken) (limit : ℕ) (bytes held : List ℕ) (a b : Option (List ℕ)) (stands : Stands spoken limit bytes held a b) (start : Option (List ℕ)) (short : length bytes ≤ most) where
   -- nothing more is read
