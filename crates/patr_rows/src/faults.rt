@@ -1,4 +1,4 @@
-//! Devices that fail once, or move a byte at a time; an input and files that are too long.
+//! Devices that fail once, or move a byte at a time; an input, files and lines that are too long.
 
 use crate::devices::{Setting, gives, well};
 use std::alloc::Global;
@@ -12,218 +12,123 @@ const LEXICON: &[u8] = b"\\w a\n\\c A";
 
 const INPUT: &[u8] = b"a\na\n";
 
-const REPLY: &[u8] = b"analyses 1\n1 (S (A a))\n";
-
 const REPLIES: &[u8] = b"analyses 1\n1 (S (A a))\nanalyses 1\n1 (S (A a))\n";
+
+/// How many bytes a call moves at most, which load, read and write or flush fails (0: none), the status, and how
+/// many bytes of the replies are written. The second reply's write is the third call of the sink.
+const FAILURES: [(usize, u64, u64, u64, u8, usize); 10] = [
+    (4096, 1, 0, 0, 4, 0),
+    (4096, 2, 0, 0, 4, 0),
+    (4096, 0, 1, 0, 4, 0),
+    (4096, 0, 2, 0, 4, 46),
+    (4096, 0, 0, 1, 5, 0),
+    (4096, 0, 0, 2, 5, 23),
+    (4096, 0, 0, 3, 5, 23),
+    (4096, 0, 0, 4, 5, 46),
+    (1, 0, 0, 0, 0, 46),
+    (1, 0, 0, 5, 5, 4),
+];
 
 #[test]
 fn each_device_fails_once(rt: HostRuntime) -> Result<(), Fail> {
-    let fine = well(GRAMMAR, LEXICON, INPUT);
     let alloc = rt.alloc();
-    // the grammar's load and the lexicon's
-    assert!(rt;
-        gives(
-            &rt,
-            alloc,
-            &FILES,
-            Setting {
-                fail_load: 1,
-                ..fine
-            },
-            4,
-            b""
-        )?
-    );
-    assert!(rt;
-        gives(
-            &rt,
-            alloc,
-            &FILES,
-            Setting {
-                fail_load: 2,
-                ..fine
-            },
-            4,
-            b""
-        )?
-    );
-    // the first read, and the one that would find the end
-    assert!(rt;
-        gives(
-            &rt,
-            alloc,
-            &FILES,
-            Setting {
-                fail_read: 1,
-                ..fine
-            },
-            4,
-            b""
-        )?
-    );
-    assert!(rt;
-        gives(
-            &rt,
-            alloc,
-            &FILES,
-            Setting {
-                fail_read: 2,
-                ..fine
-            },
-            4,
-            REPLIES
-        )?
-    );
-    // a reply's write and its flush: the second reply's write is the third call
-    assert!(rt;
-        gives(
-            &rt,
-            alloc,
-            &FILES,
-            Setting {
-                fail_write: 1,
-                ..fine
-            },
-            5,
-            b""
-        )?
-    );
-    assert!(rt;
-        gives(
-            &rt,
-            alloc,
-            &FILES,
-            Setting {
-                fail_write: 2,
-                ..fine
-            },
-            5,
-            REPLY
-        )?
-    );
-    assert!(rt;
-        gives(
-            &rt,
-            alloc,
-            &FILES,
-            Setting {
-                fail_write: 3,
-                ..fine
-            },
-            5,
-            REPLY
-        )?
-    );
-    assert!(rt;
-        gives(
-            &rt,
-            alloc,
-            &FILES,
-            Setting {
-                fail_write: 4,
-                ..fine
-            },
-            5,
-            REPLIES
-        )?
-    );
+    for (most, fail_load, fail_read, fail_write, code, count) in FAILURES {
+        let setting = Setting {
+            grammar: GRAMMAR,
+            lexicon: LEXICON,
+            input: INPUT,
+            most,
+            fail_load,
+            fail_read,
+            fail_write,
+        };
+        let written = REPLIES.get(..count).unwrap_or(b"");
+        assert!(rt;
+            gives(&rt, alloc, &FILES, setting, code, written)?,
+            "{most} {fail_load} {fail_read} {fail_write}"
+        );
+    }
     Ok(())
 }
 
-#[test]
-fn pieces_of_a_byte_change_nothing(rt: HostRuntime) -> Result<(), Fail> {
-    let small = Setting {
-        most: 1,
-        ..well(GRAMMAR, LEXICON, INPUT)
-    };
-    let alloc = rt.alloc();
-    assert!(rt; gives(&rt, alloc, &FILES, small, 0, REPLIES)?);
-    assert!(rt;
-        gives(
-            &rt,
-            alloc,
-            &FILES,
-            Setting {
-                fail_write: 5,
-                ..small
-            },
-            5,
-            b"anal"
-        )?
-    );
-    Ok(())
-}
-
-/// As many bytes, each of them this one.
-fn filled(alloc: Global, byte: u8, count: usize) -> Result<Vec<u8>, Fail> {
-    let mut bytes = Vec::with_capacity(alloc, count)?;
-    bytes.resize(count, byte)?;
+/// This text, and then as many of this byte.
+fn filled(alloc: Global, text: &[u8], byte: u8, count: usize) -> Result<Vec<u8>, Fail> {
+    let mut bytes = Vec::from_slice(alloc, text)?;
+    for _ in 0..count {
+        bytes.push(byte)?;
+    }
     Ok(bytes)
 }
 
 #[test]
-fn long_files_and_inputs_are_refused(rt: HostRuntime) -> Result<(), Fail> {
+fn long_files_are_refused(rt: HostRuntime) -> Result<(), Fail> {
     let alloc = rt.alloc();
-    let long = filled(alloc, b'\n', 16_777_217)?;
-    let grammar = well(&long[..4_194_305], LEXICON, INPUT);
+    let long = filled(alloc, b"", b'\n', 4_194_305)?;
+    let setting = well(&long, LEXICON, INPUT);
     assert!(rt;
         gives(
             &rt,
             alloc,
             &FILES,
-            grammar,
+            setting,
             2,
             b"error: grammar: more than 4194304 bytes\n"
         )?
     );
-    let lexicon = well(GRAMMAR, &long, INPUT);
+    let long = filled(alloc, b"", b'\n', 16_777_217)?;
+    let setting = well(GRAMMAR, &long, INPUT);
     assert!(rt;
         gives(
             &rt,
             alloc,
             &FILES,
-            lexicon,
+            setting,
             3,
             b"error: lexicon: more than 16777216 bytes\n"
         )?
     );
-    let input = well(GRAMMAR, LEXICON, &long);
-    assert!(rt;
-        gives(
-            &rt,
-            alloc,
-            &FILES,
-            input,
-            7,
-            b"error: input longer than 16777216 bytes\n"
-        )?
-    );
-    let exact = well(GRAMMAR, LEXICON, &long[..16_777_216]);
-    assert!(rt; gives(&rt, alloc, &FILES, exact, 0, b"")?);
     Ok(())
 }
+
+/// How many LFs an input has, the status, and what is written.
+const INPUTS: [(usize, u8, &[u8]); 2] = [
+    (16_777_216, 0, b""),
+    (16_777_217, 7, b"error: input longer than 16777216 bytes\n"),
+];
+
+#[test]
+fn long_inputs_are_refused(rt: HostRuntime) -> Result<(), Fail> {
+    let alloc = rt.alloc();
+    for (count, code, written) in INPUTS {
+        let input = filled(alloc, b"", b'\n', count)?;
+        let setting = well(GRAMMAR, LEXICON, &input);
+        assert!(rt;
+            gives(&rt, alloc, &FILES, setting, code, written)?,
+            "{count}"
+        );
+    }
+    Ok(())
+}
+
+/// How many spaces stand behind the first letter, what ends the line, and what is written.
+const LINES: [(usize, &[u8], &[u8]); 3] = [
+    (4095, b"\r\n", b"analyses 1\n1 (S (A a))\n"),
+    (4096, b"", b"error: bad command\n"),
+    (
+        4096,
+        b"\na",
+        b"error: bad command\nanalyses 1\n1 (S (A a))\n",
+    ),
+];
 
 #[test]
 fn long_lines_are_bad_commands(rt: HostRuntime) -> Result<(), Fail> {
     let alloc = rt.alloc();
-    let mut line = filled(alloc, b' ', 4096)?;
-    line[0] = b'a';
-    line.extend_from_slice(b"\r\n")?;
-    let within = well(GRAMMAR, LEXICON, &line);
-    assert!(rt; gives(&rt, alloc, &FILES, within, 0, REPLY)?);
-    let mut longer = filled(alloc, b' ', 4097)?;
-    longer[0] = b'a';
-    longer.extend_from_slice(b"\na\n")?;
-    let past = well(GRAMMAR, LEXICON, &longer);
-    assert!(rt;
-        gives(
-            &rt,
-            alloc,
-            &FILES,
-            past,
-            0,
-            b"error: bad command\nanalyses 1\n1 (S (A a))\n"
-        )?
-    );
+    for (count, end, written) in LINES {
+        let mut input = filled(alloc, b"a", b' ', count)?;
+        input.extend_from_slice(end)?;
+        let setting = well(GRAMMAR, LEXICON, &input);
+        assert!(rt; gives(&rt, alloc, &FILES, setting, 0, written)?, "{count}");
+    }
     Ok(())
 }

@@ -25,61 +25,63 @@ struct Row {
     written: &'static [u8],
 }
 
+/// Sessions that are answered.
+const SENTENCES: [Row; 7] = [
+    Row {
+        grammar: BARKS,
+        lexicon: ANIMALS,
+        input: b"the dog barks\n",
+        code: 0,
+        written: b"analyses 1\n1 (S (NP (Det the) (N dog)) (VP (V barks)))\n",
+    },
+    Row {
+        grammar: BARKS,
+        lexicon: ANIMALS,
+        input: b"dog the",
+        code: 0,
+        written: b"analyses 0\n",
+    },
+    Row {
+        grammar: BARKS,
+        lexicon: ANIMALS,
+        input: b"",
+        code: 0,
+        written: b"",
+    },
+    Row {
+        grammar: BARKS,
+        lexicon: ANIMALS,
+        input: b" \t\r\n\r\nthe cat barks loudly\r\n\xFF\n\t:quit\nthe\tdog  barks \r",
+        code: 0,
+        written: b"error: unknown word at 2: cat\nerror: bad command\nerror: bad command\nanalyses 1\n1 (S (NP (Det the) (N dog)) (VP (V barks)))\n",
+    },
+    Row {
+        grammar: ATTACHMENT,
+        lexicon: PARKS,
+        input: b"I saw men in parks\nI saw men in parks with dogs\n",
+        code: 0,
+        written: b"analyses 2\n1 (S (NP I) (VP (V saw) (NP (NP men) (PP (P in) (NP parks)))))\n2 (S (NP I) (VP (VP (V saw) (NP men)) (PP (P in) (NP parks))))\nanalyses 5\n1 (S (NP I) (VP (V saw) (NP (NP men) (PP (P in) (NP (NP parks) (PP (P with) (NP dogs)))))))\n2 (S (NP I) (VP (V saw) (NP (NP (NP men) (PP (P in) (NP parks))) (PP (P with) (NP dogs)))))\n3 (S (NP I) (VP (VP (V saw) (NP men)) (PP (P in) (NP (NP parks) (PP (P with) (NP dogs))))))\n4 (S (NP I) (VP (VP (V saw) (NP (NP men) (PP (P in) (NP parks)))) (PP (P with) (NP dogs))))\n5 (S (NP I) (VP (VP (VP (V saw) (NP men)) (PP (P in) (NP parks))) (PP (P with) (NP dogs))))\n",
+    },
+    Row {
+        grammar: b"Rule A -> A_1",
+        lexicon: b"\\w a\n\\c A\n",
+        input: b"a\n",
+        code: 0,
+        written: b"error: more than 20000 edges\n",
+    },
+    Row {
+        grammar: b"Rule T -> S W Rule S -> A A Rule A -> B B Rule B -> C C Rule C ->",
+        lexicon: b"\\w w\n\\c W",
+        input: b"w",
+        code: 0,
+        written: b"analyses 1\n1 (T (S (A (B (C) (C)) (B (C) (C))) (A (B (C) (C)) (B (C) (C)))) (W w))\n",
+    },
+];
+
 #[test]
 fn sentences_are_answered(rt: HostRuntime) -> Result<(), Fail> {
-    let rows = [
-        Row {
-            grammar: BARKS,
-            lexicon: ANIMALS,
-            input: b"the dog barks\n",
-            code: 0,
-            written: b"analyses 1\n1 (S (NP (Det the) (N dog)) (VP (V barks)))\n",
-        },
-        Row {
-            grammar: BARKS,
-            lexicon: ANIMALS,
-            input: b"dog the",
-            code: 0,
-            written: b"analyses 0\n",
-        },
-        Row {
-            grammar: BARKS,
-            lexicon: ANIMALS,
-            input: b"",
-            code: 0,
-            written: b"",
-        },
-        Row {
-            grammar: BARKS,
-            lexicon: ANIMALS,
-            input: b" \t\r\n\r\nthe cat barks loudly\r\n\xFF\n\t:quit\nthe\tdog  barks \r",
-            code: 0,
-            written: b"error: unknown word at 2: cat\nerror: bad command\nerror: bad command\nanalyses 1\n1 (S (NP (Det the) (N dog)) (VP (V barks)))\n",
-        },
-        Row {
-            grammar: ATTACHMENT,
-            lexicon: PARKS,
-            input: b"I saw men in parks\nI saw men in parks with dogs\n",
-            code: 0,
-            written: b"analyses 2\n1 (S (NP I) (VP (V saw) (NP (NP men) (PP (P in) (NP parks)))))\n2 (S (NP I) (VP (VP (V saw) (NP men)) (PP (P in) (NP parks))))\nanalyses 5\n1 (S (NP I) (VP (V saw) (NP (NP men) (PP (P in) (NP (NP parks) (PP (P with) (NP dogs)))))))\n2 (S (NP I) (VP (V saw) (NP (NP (NP men) (PP (P in) (NP parks))) (PP (P with) (NP dogs)))))\n3 (S (NP I) (VP (VP (V saw) (NP men)) (PP (P in) (NP (NP parks) (PP (P with) (NP dogs))))))\n4 (S (NP I) (VP (VP (V saw) (NP (NP men) (PP (P in) (NP parks)))) (PP (P with) (NP dogs))))\n5 (S (NP I) (VP (VP (VP (V saw) (NP men)) (PP (P in) (NP parks))) (PP (P with) (NP dogs))))\n",
-        },
-        Row {
-            grammar: b"Rule A -> A_1",
-            lexicon: b"\\w a\n\\c A\n",
-            input: b"a\n",
-            code: 0,
-            written: b"error: more than 20000 edges\n",
-        },
-        Row {
-            grammar: b"Rule T -> S W Rule S -> A A Rule A -> B B Rule B -> C C Rule C ->",
-            lexicon: b"\\w w\n\\c W",
-            input: b"w",
-            code: 0,
-            written: b"analyses 1\n1 (T (S (A (B (C) (C)) (B (C) (C))) (A (B (C) (C)) (B (C) (C)))) (W w))\n",
-        },
-    ];
     let alloc = rt.alloc();
-    for (k, row) in rows.iter().enumerate() {
+    for (k, row) in SENTENCES.iter().enumerate() {
         let setting = well(row.grammar, row.lexicon, row.input);
         assert!(rt;
             gives(&rt, alloc, &FILES, setting, row.code, row.written)?,
@@ -89,61 +91,63 @@ fn sentences_are_answered(rt: HostRuntime) -> Result<(), Fail> {
     Ok(())
 }
 
+/// Files that are refused.
+const REFUSED: [Row; 7] = [
+    Row {
+        grammar: b"Rule S -> NP VP <S f> = x",
+        lexicon: ANIMALS,
+        input: b"the dog barks\n",
+        code: 2,
+        written: b"error: grammar 1:17: not built yet\n",
+    },
+    Row {
+        grammar: b"",
+        lexicon: ANIMALS,
+        input: b"",
+        code: 2,
+        written: b"error: grammar 1:1: not built yet\n",
+    },
+    Row {
+        grammar: b"\x01",
+        lexicon: ANIMALS,
+        input: b"",
+        code: 2,
+        written: b"error: grammar 1:1: bad character\n",
+    },
+    Row {
+        grammar: b"\xFF",
+        lexicon: ANIMALS,
+        input: b"",
+        code: 2,
+        written: b"error: grammar: not UTF-8 at byte 0\n",
+    },
+    Row {
+        grammar: BARKS,
+        lexicon: b"\\w the\n\\c Det\n\\w dog\n",
+        input: b"",
+        code: 3,
+        written: b"error: lexicon 4:1: not built yet\n",
+    },
+    Row {
+        grammar: BARKS,
+        lexicon: b"\\w the\r\n\\c Det\r\n",
+        input: b"",
+        code: 3,
+        written: b"error: lexicon 1:1: not built yet\n",
+    },
+    Row {
+        grammar: BARKS,
+        lexicon: b"\\w \xFF",
+        input: b"",
+        code: 3,
+        written: b"error: lexicon: not UTF-8 at byte 3\n",
+    },
+];
+
 #[test]
 fn files_are_refused(rt: HostRuntime) -> Result<(), Fail> {
-    let rows = [
-        Row {
-            grammar: b"Rule S -> NP VP <S f> = x",
-            lexicon: ANIMALS,
-            input: b"the dog barks\n",
-            code: 2,
-            written: b"error: grammar 1:17: not built yet\n",
-        },
-        Row {
-            grammar: b"",
-            lexicon: ANIMALS,
-            input: b"",
-            code: 2,
-            written: b"error: grammar 1:1: not built yet\n",
-        },
-        Row {
-            grammar: b"\x01",
-            lexicon: ANIMALS,
-            input: b"",
-            code: 2,
-            written: b"error: grammar 1:1: bad character\n",
-        },
-        Row {
-            grammar: b"\xFF",
-            lexicon: ANIMALS,
-            input: b"",
-            code: 2,
-            written: b"error: grammar: not UTF-8 at byte 0\n",
-        },
-        Row {
-            grammar: BARKS,
-            lexicon: b"\\w the\n\\c Det\n\\w dog\n",
-            input: b"",
-            code: 3,
-            written: b"error: lexicon 4:1: not built yet\n",
-        },
-        Row {
-            grammar: BARKS,
-            lexicon: b"\\w the\r\n\\c Det\r\n",
-            input: b"",
-            code: 3,
-            written: b"error: lexicon 1:1: not built yet\n",
-        },
-        Row {
-            grammar: BARKS,
-            lexicon: b"\\w \xFF",
-            input: b"",
-            code: 3,
-            written: b"error: lexicon: not UTF-8 at byte 3\n",
-        },
-    ];
     let alloc = rt.alloc();
-    for (k, row) in rows.iter().enumerate() {
+    for (k, row) in REFUSED.iter().enumerate() {
         let setting = well(row.grammar, row.lexicon, row.input);
         assert!(rt;
             gives(&rt, alloc, &FILES, setting, row.code, row.written)?,
