@@ -1,12 +1,12 @@
 -- The sorted edges are all the analyses in order.
-use Rattle.std.proofs.Common.{◌≡◌, ◌⊎◌, inl, inr, ℕ, zero, suc, ◌+◌, ◌<◌, ◌≤◌, Bool, true, false, nat_eq, List, [], ◌∷◌, ◌++◌, length, map, get_or, Some, slice_get, refl, sym, ap, ◌∙◌, arith, subst}
+use Rattle.std.proofs.Common.{◌≡◌, inl, inr, ℕ, zero, suc, ◌+◌, ◌<◌, ◌≤◌, Bool, true, nat_eq, List, [], ◌∷◌, ◌++◌, length, map, get_or, Some, slice_get, refl, sym, ap, ◌∙◌, arith, subst}
 use Rattle.std.specs.List.{AllByRecursion, filter, sum_by}
 use Rattle.std.specs.List.Sorted.{IsPermutation, IsSorted}
 use Rattle.std.proofs.lemmas.List.Elements.{All-from_recursion, recursion_from_All}
 use Rattle.std.proofs.lemmas.List.Sorted.{All-permutation, IsPermutation-sym, sum_by-IsPermutation}
 use Rattle.std.proofs.lemmas.List.Sums.{sum_by-cons}
 use Rattle.patr_model.specs.Derivation.{Rules, Derivation, Begin, key}
-use Rattle.patr_model.specs.Chart.{InChart, IsIn, EachOnce, IsChart, IsAnalysis}
+use Rattle.patr_model.specs.Chart.{InChart, IsIn, IsChart, IsAnalysis}
 use Rattle.patr_model.specs.Plain.{plain}
 use Rattle.patr_model.proofs.Keys.{keys_tell}
 use Rattle.patr_shell.specs.declared.edge.Edge.{Edge}

@@ -1,5 +1,5 @@
 -- How lines are cut where the bytes come in pieces.
-use Rattle.std.proofs.Common.{◌≡◌, ℕ, zero, suc, take, nat_eq, List, [], ◌∷◌, ◌++◌, Bool, true, false, cond, refl, sym, ◌∙◌, ap, append_assoc, append-nil}
+use Rattle.std.proofs.Common.{◌≡◌, ℕ, zero, suc, take, nat_eq, List, [], ◌∷◌, ◌++◌, true, false, cond, refl, sym, ◌∙◌, ap, append-nil}
 use Rattle.patr_model.specs.Session.{Cut, cut_at, without_cr, whole_lines_from, whole_lines_of, lines_by, lines_of}
 use Rattle.patr_shell.specs.Answering.{last_of, last_piece, last_line, HasNoFeed}
 

@@ -1,10 +1,9 @@
 -- No more rules and entries are read than bytes.
-use Rattle.std.proofs.Common.{◌≡◌, ◌≤◌, ◌<◌, ◌-◌, ◌+◌, ℕ, nat_eq, zero, suc, List, [], ◌∷◌, length, Bool, true, false, cond, Option, Some, None, Ok, Err, Result, refl, sym, ◌∙◌, ap, subst, arith}
-use Rattle.patr_model.specs.declared.front.Front.{Front}
+use Rattle.std.proofs.Common.{◌≡◌, ◌≤◌, ◌-◌, ◌+◌, ℕ, nat_eq, zero, suc, List, [], ◌∷◌, length, Bool, true, false, cond, Option, Some, None, Ok, Err, refl, ap, arith}
 use Rattle.patr_model.specs.declared.front.Front.TheVariants.{Blank, Piece, Control}
-use Rattle.patr_model.specs.Session.{Cut, cut_at, lines_by, without_empty}
+use Rattle.patr_model.specs.Session.{Cut, cut_at, lines_by}
 use Rattle.patr_model.specs.Tokens.{Token, Place, Scanned, front, scan, with_token, read_front, step}
-use Rattle.patr_model.specs.FirstPass.{Parse, Got, Stops, ◌>>=◌, one, symbols, rule, more_rules, rules, PlainRule, PlainEntry, is_symbol, is_rule_word, is_arrow_token, ReadsRules, ReadsEntries, entries, Entries, StopsAtLine, EntriesRead, read_pair, with_entry, field, lexicon_lines}
+use Rattle.patr_model.specs.FirstPass.{Parse, Got, Stops, ◌>>=◌, one, symbols, rule, more_rules, PlainRule, PlainEntry, is_symbol, is_rule_word, is_arrow_token, ReadsRules, ReadsEntries, entries, Entries, StopsAtLine, EntriesRead, read_pair, field, lexicon_lines}
 
 -- ---- tokens
 

@@ -1,12 +1,11 @@
 -- Words of the lexicon, by the table and by the entries of a word.
-use Rattle.std.proofs.Common.{◌≡◌, ◌⊎◌, inl, inr, ℕ, zero, suc, ◌+◌, ◌<◌, ◌≤◌, Bool, true, false, cond, ◌||◌, nat_eq, List, [], ◌∷◌, ◌++◌, length, map, take, get_or, Some, None, slice_get, option_and_then, refl, sym, ap, ◌∙◌, arith, subst, eqb-true, eq-eqb, Bor}
+use Rattle.std.proofs.Common.{◌≡◌, ℕ, zero, suc, ◌+◌, ◌<◌, Bool, true, false, ◌||◌, List, [], ◌∷◌, ◌++◌, length, map, take, get_or, Some, slice_get, option_and_then, refl, sym, ap, ◌∙◌, arith, subst, eqb-true, eq-eqb, Bor}
 use Rattle.std.specs.List.{AllByRecursion, list_any}
 use Rattle.std.specs.Str.{bytes_eq}
 use Rattle.std.proofs.lemmas.Slice.Eq.{bytes_eq-Decides}
-use Rattle.std.proofs.lemmas.Option.{slice_get_within, slice_get-get_or}
 use Rattle.patr_text.specs.Texts.{holds}
 use Rattle.patr_text.specs.declared.symbols.Id.{Id}
-use Rattle.patr_model.specs.Derivation.{Rules, EntryVariant, entry_variant}
+use Rattle.patr_model.specs.Derivation.{EntryVariant}
 use Rattle.patr_model.specs.Session.{Numbering, AgreesWith, Grounds, IsKnown, IsFirstUnknown}
 use Rattle.patr_model.proofs.Maps.{some_inj, and_then_some}
 use Rattle.patr_shell.specs.Numbered.{places}
@@ -14,7 +13,6 @@ use Rattle.patr_shell.specs.Spoken.{Spoken, grounds, has_word}
 use Rattle.patr_shell.specs.Known.{HasWords, ids}
 use Rattle.patr_shell.specs.Tasks.{Has}
 use Rattle.patr_shell.proofs.Picked.{number_is, has_number}
-use Rattle.patr_shell.proofs.TreeText.{text_of}
 
 there : (xs : List (List ℕ)) (i : ℕ) → i < length xs → (t : List ℕ) × (slice_get xs i ≡ Some t)
 there [] i h = absurd (omega (arith, h))

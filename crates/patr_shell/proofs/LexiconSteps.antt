@@ -11,7 +11,8 @@ use Rattle.patr_shell.specs.declared.language.Entry.{Entry}
 use Rattle.patr_shell.specs.declared.lexicon.LexiconCause.{LexiconCause}
 use Rattle.patr_shell.specs.declared.lexicon.LexiconCause.TheVariants.{NotUtf8, LaterForm}
 use Rattle.patr_shell.specs.LexiconReading.{IsEntryOf, StandsFor, IsRefusedFor, IsFirstEntry, StopsThere}
-use Rattle.patr_shell.proofs.LexiconTables.{extends_same, extends_trans, entries_stay, entries_push}
+use Rattle.patr_grammar.proofs.Tables.{extends_self, extends_trans, each_push}
+use Rattle.patr_shell.proofs.LexiconTables.{entries_stay}
 
 -- these entries, before what is read behind them
 abbrev pub with_entries : List PlainEntry → EntriesRead → EntriesRead
@@ -45,7 +46,7 @@ none_read old text = record {
   plain = [];
   numbers = tt;
   read = refl;
-  extends = extends_same old;
+  extends = extends_self old;
   growth = omega arith;
   line = omega arith;
   few = omega arith;
@@ -56,7 +57,7 @@ module _ (old : List (List ℕ)) (text : List ℕ) (table : List (List ℕ)) (es
       → IsReadSoFar old text new (es ++ e ∷ []) (n + 2) behind
   one_read new e behind grows growth first = record {
     plain = so_far.plain ++ first.plain ∷ [];
-    numbers = entries_push new es so_far.plain e first.plain (entries_stay table new es so_far.plain grows so_far.numbers) first.numbers;
+    numbers = each_push (IsEntryOf new) es so_far.plain e first.plain (entries_stay table new es so_far.plain grows so_far.numbers) first.numbers;
     read = so_far.read ∙ ap (with_entries so_far.plain) first.read ∙ one_more so_far.plain first.plain (entries (n + 2) (lexicon_lines behind));
     extends = extends_trans old table new so_far.extends grows;
     growth = omega (arith, so_far.growth, first.within);

@@ -1,5 +1,5 @@
 -- The reply to a line, by what the line is.
-use Rattle.std.proofs.Common.{◌≡◌, ℕ, zero, suc, ◌<◌, ◌≤◌, Bool, true, false, nat_eq, List, [], ◌∷◌, length, get_or, refl, sym, ap, ◌∙◌, subst, arith, eqb-true, eq-eqb, MatchBool, IsUtf8, Bor, map}
+use Rattle.std.proofs.Common.{◌≡◌, ℕ, ◌<◌, ◌≤◌, Bool, true, false, nat_eq, List, [], ◌∷◌, length, get_or, refl, sym, ap, ◌∙◌, subst, arith, eqb-true, eq-eqb, MatchBool, IsUtf8, Bor, map}
 use Rattle.std.specs.Bool.{Decides}
 use Rattle.patr_model.specs.Plain.{plain}
 use Rattle.patr_model.specs.Session.{Grounds, State, IsSentenceReply, IsWordsReply, IsColonReply, IsLineReply, begins_with_colon, words_of}

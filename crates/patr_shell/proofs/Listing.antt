@@ -1,15 +1,14 @@
 -- The reply to a sentence, by its parts.
-use Rattle.std.proofs.Common.{◌≡◌, ◌⊎◌, inl, inr, ℕ, zero, suc, ◌+◌, ◌<◌, ◌≤◌, true, false, List, [], ◌∷◌, ◌++◌, length, map, take, get_or, Some, codes, decimal, refl, sym, ap, ◌∙◌, arith, subst, append_assoc, append-nil}
+use Rattle.std.proofs.Common.{◌≡◌, inl, inr, ℕ, zero, suc, ◌+◌, ◌<◌, ◌≤◌, false, List, [], ◌∷◌, ◌++◌, length, map, take, get_or, codes, decimal, refl, sym, ap, ◌∙◌, arith, append_assoc, append-nil}
 use Rattle.std.specs.List.{AllByRecursion}
 use Rattle.std.proofs.lemmas.List.{length-map}
 use Rattle.patr_model.specs.Derivation.{Rules, Derivation}
-use Rattle.patr_model.specs.Chart.{HasMoreThan}
 use Rattle.patr_model.specs.Plain.{plain}
 use Rattle.patr_model.specs.Text.{Look, tree_text}
-use Rattle.patr_model.specs.Session.{Numbering, Grounds, State, line, look_of, IsKnown, IsFirstUnknown, AreAnalyses, ListsAnalyses, CountsEdges, ListsAll, IsSentenceReply, too_long, unknown, too_many, analyses}
+use Rattle.patr_model.specs.Session.{Grounds, line, look_of, IsKnown, IsFirstUnknown, ListsAnalyses, ListsAll, IsSentenceReply, unknown, too_many, analyses}
 use Rattle.patr_shell.specs.declared.edge.Edge.{Edge}
 use Rattle.patr_shell.specs.Charted.{tree}
-use Rattle.patr_shell.specs.Spoken.{Spoken, grounds, at_limit}
+use Rattle.patr_shell.specs.Spoken.{at_limit}
 use Rattle.patr_shell.specs.Whole.{trees, AreAll}
 use Rattle.patr_shell.specs.Known.{analysis_lines, IsReplyToKnown}
 

@@ -1,28 +1,25 @@
 -- What the rules and the entries that were read stand for, under a numbering.
-use Rattle.std.proofs.Common.{◌≡◌, ◌≤◌, ◌<◌, ◌+◌, ℕ, suc, List, [], ◌∷◌, ◌++◌, length, map, get_or, Option, Some, None, slice_get, IfSome, refl, sym, ◌∙◌, ap, subst, arith, length-append, inl, inr}
-use Rattle.std.proofs.Math.ListN.{get_or-append}
-use Rattle.std.proofs.lemmas.Option.{slice_get_within, get_or_from_slice_get, slice_get-get_or}
+use Rattle.std.proofs.Common.{◌≡◌, ◌<◌, ℕ, suc, List, [], ◌∷◌, length, map, Option, Some, None, slice_get, IfSome, refl, sym, ◌∙◌, ap, subst, arith, inr}
+use Rattle.std.proofs.lemmas.Option.{slice_get_within}
 use Rattle.std.specs.List.{AllByRecursion}
-use Rattle.std.specs.FinMap.{get}
 use Rattle.patr_io.specs.Files.{Files}
 use Rattle.patr_text.specs.Texts.{first_texts, Extends}
-use Rattle.patr_text.specs.declared.symbols.Id.{Id}
 use Rattle.patr_model.specs.Derivation.{Rules, RuleVariant, EntryVariant}
 use Rattle.patr_model.specs.Session.{Numbering, AgreesWith, Grounds}
-use Rattle.patr_model.specs.Run.{Setup, Session, built, read}
+use Rattle.patr_model.specs.Run.{Setup, built, read}
 use Rattle.patr_model.specs.Renaming.{Each}
-use Rattle.patr_model.specs.FirstPass.{PlainRule, PlainEntry, categories, start_text, without_index, plain_rules, plain_grounds, two_words, first_pass}
+use Rattle.patr_model.specs.FirstPass.{PlainRule, PlainEntry, categories, start_text, without_index, plain_rules, plain_grounds, two_words}
 use Rattle.patr_grammar.specs.Reading.{IsSymbol, IsRule, item_seen}
-use Rattle.patr_grammar.specs.declared.grammar.SymbolText.{SymbolText}
 use Rattle.patr_grammar.specs.declared.grammar.Item.{Item}
 use Rattle.patr_grammar.specs.declared.grammar.RuleText.{RuleText}
 use Rattle.patr_grammar.specs.declared.grammar.Grammar.{Grammar}
 use Rattle.patr_shell.specs.declared.language.Rule.{Rule}
 use Rattle.patr_shell.specs.declared.language.Entry.{Entry}
 use Rattle.patr_shell.specs.LexiconReading.{IsEntryOf}
-use Rattle.patr_shell.specs.Spoken.{Spoken, rule_categories, rule_variants, entry_variants, rules_of, IsRuleHeld, IsEntryHeld, AreHeldIn, grounds, at_limit}
+use Rattle.patr_shell.specs.Spoken.{Spoken, rule_categories, rule_variants, entry_variants, rules_of, IsRuleHeld, IsEntryHeld, AreHeldIn, grounds}
 use Rattle.patr_shell.specs.Loaded.{text_categories, ReadsGrammar, ReadsLexicon}
 use Rattle.patr_shell.specs.Outcome.{Names, IsOpened, HasGrammar, HaveSession}
+use Rattle.patr_grammar.proofs.Tables.{text_still, rules_still}
 use Rattle.patr_shell.proofs.Few.{few_rules, few_entries}
 
 abbrev rules_with : List (List RuleVariant) → List (List EntryVariant) → ℕ → Rules
@@ -30,30 +27,6 @@ rules_with rs es n = record { rules = rs; entries = es; start = n; restrictor = 
 
 abbrev grounds_with : Numbering → Rules → Grounds
 grounds_with N r = record { names = N; rules = r; order = [] }
-
--- a text keeps its number in a longer table
-kept_at : (old new : List (List ℕ)) (i : ℕ) (t : List ℕ) → Extends old new → slice_get old i ≡ Some t → slice_get new i ≡ Some t
-kept_at old new i t (more, is) at =
-    let within = slice_get_within old i t at in
-    let here : get_or (old ++ more) i t ≡ t = get_or-append old more t i within ∙ get_or_from_slice_get old i t t at in
-    let longer : i < length (old ++ more) = omega (arith, within, length-append old more) in
-    subst (λ l. slice_get l i ≡ Some t) (sym is) (slice_get-get_or (old ++ more) i t longer ∙ ap (λ (x : List ℕ). Some x) here)
-
-module _ (old new : List (List ℕ)) (longer : Extends old new) where
-  symbol_kept : (t : List ℕ) (s : SymbolText) → IsSymbol old t s → IsSymbol new t s
-  symbol_kept t s is = (kept_at old new s.symbol.0 t longer is.0, kept_at old new s.category.0 (without_index t) longer is.1)
-
-  symbols_kept : (ts : List (List ℕ)) (ss : List SymbolText) → Each (IsSymbol old) ts ss → Each (IsSymbol new) ts ss
-  symbols_kept [] [] is = is
-  symbols_kept [] (s ∷ ss) is = absurd is
-  symbols_kept (t ∷ ts) [] is = absurd is
-  symbols_kept (t ∷ ts) (s ∷ ss) is = (symbol_kept t s is.0, symbols_kept ts ss is.1)
-
-  rules_kept : (gs : List RuleText) (rs : List PlainRule) → Each (IsRule old) gs rs → Each (IsRule new) gs rs
-  rules_kept [] [] is = is
-  rules_kept [] (r ∷ rs) is = absurd is
-  rules_kept (g ∷ gs) [] is = absurd is
-  rules_kept (g ∷ gs) (r ∷ rs) is = ((is.0.0, symbol_kept r.mother g.mother is.0.1, symbols_kept r.right (map item_seen g.right.items) is.0.2), rules_kept gs rs is.1)
 
 pub length_each : {X Y : Type 0} (R : X → Y → Type 0) (xs : List X) (ys : List Y) → Each R xs ys → length xs ≡ length ys
 length_each R [] [] is = refl
@@ -149,10 +122,10 @@ module _ (old table : List (List ℕ)) (longer : Extends old table) (grammar : G
     (same : map rule_categories rules ≡ map text_categories grammar.rules.items) where
   module _ (files : Option Files) (grammar_name lexicon_name : List ℕ) (g : ReadsGrammar files grammar_name old grammar) (l : ReadsLexicon files lexicon_name table entries) where
     rules_read : Each (IsRule table) grammar.rules.items g.stands.0
-    rules_read = rules_kept old table longer grammar.rules.items g.stands.0 g.stands.2
+    rules_read = rules_still old table longer grammar.rules.items g.stands.0 g.stands.2
 
     start_read : slice_get table grammar.start.0 ≡ Some (start_text g.stands.0)
-    start_read = kept_at old table grammar.start.0 (start_text g.stands.0) longer g.stands.3
+    start_read = text_still old table longer grammar.start.0 (start_text g.stands.0) g.stands.3
 
     pub are_held : AreHeldIn (length table) rules entries grammar.start
     are_held = record {

@@ -1,13 +1,13 @@
 -- What a run writes, by its opening and its session.
-use Rattle.std.proofs.Common.{◌≡◌, ◌<◌, ℕ, List, [], Option, Some, None, IfSome, Bool, true, false, length, refl, sym, ◌∙◌, ap, subst, inl, inr, ◌⊎◌}
+use Rattle.std.proofs.Common.{◌≡◌, ◌<◌, ℕ, List, Option, Some, None, IfSome, Bool, true, false, length, refl, sym, ◌∙◌, ap, subst, inl, inr}
 use Rattle.std.specs.Bool.{OnTrue}
 use Rattle.std.specs.Option.{IsSomeAnd}
 use Rattle.std.specs.FinMap.{get}
 use Rattle.std.specs.Io.KnownBytes.{Appends}
 use Rattle.patr_io.specs.Files.{Files}
-use Rattle.patr_model.specs.Session.{Numbering, AgreesWith}
+use Rattle.patr_model.specs.Session.{Numbering}
 use Rattle.patr_model.specs.Table.{IsTable}
-use Rattle.patr_model.specs.Run.{Ending, Opening, Session, Refusal as Refuses, AfterWords, AfterGrammar, IsOpening, IsOut, Follows}
+use Rattle.patr_model.specs.Run.{Opening, Session, Refusal as Refuses, AfterWords, AfterGrammar, IsOpening, IsOut, Follows}
 use Rattle.patr_model.specs.FirstPass.{first_pass, rules_line, entries_line}
 use Rattle.patr_grammar.specs.Reading.{trouble_of}
 use Rattle.patr_shell.specs.LexiconReading.{trouble_of as entries_trouble_of}

@@ -1,6 +1,6 @@
 -- Every analysis by categories is an edge of the closed chart.
-use Rattle.std.proofs.Common.{◌≡◌, ℕ, suc, List, [], ◌∷◌, Some, None, option_and_then, slice_get, refl, sym, ap, subst}
-use Rattle.patr_model.specs.Derivation.{Rules, Derivation, Leaf, Begin, Extend, root_rule, seen, start, end, IsPartial, IsComplete}
+use Rattle.std.proofs.Common.{◌≡◌, ℕ, suc, List, Some, slice_get, sym, subst}
+use Rattle.patr_model.specs.Derivation.{Rules, Derivation, Leaf, Begin, Extend, root_rule, seen, start, end, IsPartial}
 use Rattle.patr_model.specs.Chart.{InChart, word, first, predicted, extended, IsDerivation, IsAnalysis}
 use Rattle.patr_model.specs.Plain.{plain, slot_category, category_of, SameCategory, IsPlain}
 use Rattle.patr_model.proofs.Maps.{and_then_some}

@@ -1,11 +1,11 @@
 -- Replies to lines, one list behind another, and how much of a line its reply depends on.
-use Rattle.std.proofs.Common.{◌≡◌, ◌≤◌, ◌<◌, ℕ, suc, List, [], ◌∷◌, ◌++◌, Option, Some, None, Bool, true, false, length, take, leb, refl, sym, ◌∙◌, ap, subst, arith, append-nil, append_assoc, inl, inr, ◌⊎◌}
+use Rattle.std.proofs.Common.{◌≡◌, ◌≤◌, ◌<◌, ℕ, List, [], ◌∷◌, ◌++◌, Option, true, false, length, take, leb, refl, sym, ◌∙◌, ap, subst, arith, append-nil, append_assoc, inl, inr, ◌⊎◌}
 use Rattle.std.proofs.lemmas.Bool.Decides.{nat_tests}
 use Rattle.std.proofs.lemmas.List.{length-take-le, take_all}
 use Rattle.std.specs.Io.KnownBytes.{Appends}
 use Rattle.std.proofs.KnownBytes.{Appends-nil, Appends-trans}
 use Rattle.patr_model.specs.Plain.{plain}
-use Rattle.patr_model.specs.Session.{Numbering, AgreesWith, Grounds, State, IsLineReply, too_long, not_text, spelled, without_cr}
+use Rattle.patr_model.specs.Session.{Grounds, State, IsLineReply, too_long, not_text, spelled, without_cr}
 use Rattle.patr_model.specs.FirstPass.{sentences_alone}
 use Rattle.patr_shell.specs.Spoken.{Spoken, grounds, at_limit}
 use Rattle.patr_shell.specs.Sent.{AppendsFront}

@@ -1,5 +1,5 @@
 -- What a call that gives nothing but success has done.
-use Rattle.std.proofs.Common.{◌≡◌, ℕ, Bool, true, false, cond, List, Result, Ok, Err, IfOk, sym, ap, ◌∙◌}
+use Rattle.std.proofs.Common.{◌≡◌, ℕ, cond, List, Result, Ok, Err, IfOk, ◌∙◌}
 use Rattle.std.specs.Result.{is_ok}
 
 pub if_ok_is : {E : Type 0} (r : Result (Unit {0}) E) (now done kept goal : List ℕ) → now ≡ cond (is_ok r) done kept → done ≡ goal → IfOk r (λ _. now ≡ goal)

@@ -1,12 +1,12 @@
 -- Where a session stands after some bytes of the input.
-use Rattle.std.proofs.Common.{◌≡◌, ◌≤◌, ◌<◌, ℕ, suc, List, [], ◌∷◌, ◌++◌, Option, length, take, refl, sym, ◌∙◌, ap, subst, arith, append-nil, append_assoc, inl, inr}
+use Rattle.std.proofs.Common.{◌≡◌, ◌≤◌, ◌<◌, ℕ, List, [], ◌∷◌, ◌++◌, Option, length, take, refl, sym, ◌∙◌, ap, subst, arith, inl, inr}
 use Rattle.std.proofs.lemmas.List.{length-take}
 use Rattle.patr_model.specs.Session.{without_cr, without_empty, whole_lines_from, whole_lines_of, lines_of}
 use Rattle.patr_shell.specs.Spoken.{Spoken}
 use Rattle.patr_shell.specs.Answering.{HasNoFeed, last_of, last_piece, last_line, HasAnswered, HasBegun}
 use Rattle.patr_shell.proofs.Cuts.{cut, lines_behind, piece_behind, piece_is_free, take_is_free, lines_of_two, piece_of_two, lines_are}
 use Rattle.patr_shell.proofs.Ends.{kept_behind, take_once}
-use Rattle.patr_shell.proofs.Replying.{one_or_long, answered_none, answered_two, answered_same, begun_same, begun_behind, begun_longer, begun_of_answered}
+use Rattle.patr_shell.proofs.Replying.{one_or_long, answered_none, answered_two, answered_same, begun_same, begun_behind, begun_of_answered}
 
 -- the lines so far are answered, and what stands behind them is held as far as it matters
 pub record Stands (spoken : Spoken) (limit : ℕ) (bytes held : List ℕ) (a b : Option (List ℕ)) : Type 0 where

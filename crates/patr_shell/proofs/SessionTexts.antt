@@ -1,10 +1,10 @@
 -- How what was answered makes up the text of a session over a whole input.
-use Rattle.std.proofs.Common.{◌≡◌, ◌<◌, ◌≤◌, ◌-◌, ◌+◌, ◌^◌, ℕ, zero, suc, List, [], ◌∷◌, ◌++◌, Option, None, Some, IfSome, Bool, true, false, length, take, drop, refl, sym, ◌∙◌, ap, subst, append_assoc, append-nil, arith, length-append, take-append-drop, inl, inr}
+use Rattle.std.proofs.Common.{◌≡◌, ◌<◌, ◌≤◌, ◌-◌, ◌+◌, ℕ, zero, suc, List, [], ◌∷◌, ◌++◌, Option, None, Some, IfSome, Bool, true, false, length, take, drop, refl, sym, ◌∙◌, ap, subst, append_assoc, append-nil, arith, length-append, take-append-drop, inr}
 use Rattle.std.proofs.lemmas.List.{take_all, take_at, length-take-le}
 use Rattle.std.specs.Io.KnownBytes.{Appends, Consumes, IsAtEnd}
 use Rattle.std.proofs.KnownBytes.{Appends-trans}
 use Rattle.patr_model.specs.Plain.{plain}
-use Rattle.patr_model.specs.Session.{Numbering, AgreesWith, Grounds, State, Quit, IsQuit, Replied, whole_lines_of, lines_of}
+use Rattle.patr_model.specs.Session.{Numbering, AgreesWith, IsQuit, Replied, whole_lines_of, lines_of}
 use Rattle.patr_model.specs.Run.{Ending, Done, InputTooLong, IsSession, ended, quit, too_long}
 use Rattle.patr_model.specs.FirstPass.{first_pass, sentences_alone}
 use Rattle.patr_model.specs.Openings.{Answered}

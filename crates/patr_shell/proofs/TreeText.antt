@@ -1,8 +1,8 @@
 -- One step of writing a tree's text.
-use Rattle.std.proofs.Common.{◌≡◌, ℕ, zero, suc, ◌+◌, ◌*◌, ◌<◌, List, [], ◌∷◌, ◌++◌, length, get_or, Option, Some, None, slice_get, codes, refl, sym, ap, ◌∙◌, arith, subst, append_assoc, append-nil}
+use Rattle.std.proofs.Common.{◌≡◌, ℕ, ◌+◌, ◌<◌, List, [], ◌∷◌, ◌++◌, length, get_or, Some, None, slice_get, codes, refl, sym, ap, ◌∙◌, arith, append_assoc, append-nil}
 use Rattle.patr_model.specs.Derivation.{Rules, RuleVariant, EntryVariant, Derivation, Leaf, Begin, Extend, entry_variant, rule_variant}
 use Rattle.patr_model.proofs.Maps.{some_inj}
-use Rattle.patr_model.specs.Text.{Look, printed, entry_category, entry_word, mother_category, open_tree, tree_text}
+use Rattle.patr_model.specs.Text.{Look, printed, entry_category, entry_word, mother_category, open_tree}
 use Rattle.patr_model.specs.Session.{Numbering, AgreesWith}
 use Rattle.patr_shell.specs.declared.edge.EdgeKind.{EdgeKind}
 use Rattle.patr_shell.specs.declared.edge.EdgeKind.TheVariants.{Entry, Rule}
@@ -12,7 +12,7 @@ use Rattle.patr_shell.specs.declared.tree.Step.{Step}
 use Rattle.patr_shell.specs.declared.tree.Step.TheVariants.{Tree, Space, Close}
 use Rattle.patr_shell.specs.Charted.{alone, tree, AreEdges}
 use Rattle.patr_shell.specs.Pending.{weight}
-use Rattle.patr_shell.specs.Writing.{root_text, step_text, steps_text, step_weight, steps_weight, IsHeld, AreHeld, IsWritten}
+use Rattle.patr_shell.specs.Writing.{root_text, step_text, steps_text, step_weight, steps_weight, AreHeld, IsWritten}
 use Rattle.patr_shell.proofs.Trees.{tree_alone, tree_longer, get_below}
 
 -- texts in a row

@@ -1,5 +1,5 @@
 -- The replies to lines under a language, and what of them reached a sink.
-use Rattle.std.specs.Prelude.{◌≡◌, ◌^◌, ◌≤◌, ℕ, nat_eq, List, [], ◌∷◌, ◌++◌, length, Bool, true, false, Option, Result, Err, codes}
+use Rattle.std.specs.Prelude.{◌≡◌, ℕ, nat_eq, List, [], ◌∷◌, ◌++◌, Bool, true, false, Option, Result, Err, codes}
 use Rattle.std.specs.Io.KnownBytes.{Appends}
 use Rattle.patr_model.specs.Plain.{plain}
 use Rattle.patr_model.specs.Session.{Numbering, AgreesWith, IsLineReply, line, cut_at, without_cr, without_empty}

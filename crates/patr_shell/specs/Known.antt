@@ -1,5 +1,5 @@
 -- The words of a sentence, by the lexicon.
-use Rattle.std.specs.Prelude.{◌≡◌, ◌⊎◌, ℕ, suc, ◌<◌, List, [], ◌∷◌, ◌++◌, length, map, Some, slice_get, nat_eq, codes, decimal}
+use Rattle.std.specs.Prelude.{◌≡◌, ◌⊎◌, ℕ, suc, ◌<◌, List, [], ◌∷◌, ◌++◌, length, map, Some, nat_eq, codes, decimal}
 use Rattle.std.specs.List.{slice_split}
 use Rattle.patr_text.specs.declared.symbols.Id.{Id}
 use Rattle.patr_model.specs.Derivation.{Rules, EntryVariant, Derivation, entry_variant}

@@ -1,5 +1,5 @@
 -- What the two files of a run are read as.
-use Rattle.std.specs.Prelude.{◌≡◌, ◌⊎◌, ◌≤◌, ⊤, ℕ, List, ◌∷◌, length, map, Option}
+use Rattle.std.specs.Prelude.{◌≡◌, ◌⊎◌, ◌≤◌, ℕ, List, ◌∷◌, length, map, Option}
 use Rattle.patr_io.specs.Files.{Files, HasFile}
 use Rattle.patr_grammar.specs.Reading.{item_seen, StandsFor}
 use Rattle.patr_grammar.specs.declared.grammar.RuleText.{RuleText}

@@ -1,5 +1,5 @@
 -- The edges that are analyses.
-use Rattle.std.specs.Prelude.{◌≡◌, ℕ, ◌<◌, Bool, true, false, ◌&&◌, nat_eq, List, length, map, Option, Some, None}
+use Rattle.std.specs.Prelude.{◌≡◌, ℕ, ◌<◌, Bool, false, ◌&&◌, nat_eq, List, length, map, Option, Some, None}
 use Rattle.std.specs.List.{AllByRecursion}
 use Rattle.patr_model.specs.Derivation.{Rules, Derivation, key}
 use Rattle.patr_model.specs.Chart.{IsIn, IsAnalysis}

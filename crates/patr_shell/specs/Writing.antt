@@ -1,5 +1,5 @@
 -- What is still to be written of a tree's text, the next part last.
-use Rattle.std.specs.Prelude.{◌≡◌, ℕ, suc, ◌+◌, ◌*◌, ◌<◌, List, [], ◌∷◌, ◌++◌, length, codes}
+use Rattle.std.specs.Prelude.{◌≡◌, ℕ, ◌+◌, ◌*◌, ◌<◌, List, [], ◌∷◌, ◌++◌, codes}
 use Rattle.patr_model.specs.Derivation.{Rules, entry_variant, rule_variant}
 use Rattle.patr_model.specs.Text.{Look, printed, entry_category, entry_word, mother_category, open_tree}
 use Rattle.patr_shell.specs.declared.edge.EdgeKind.{EdgeKind}

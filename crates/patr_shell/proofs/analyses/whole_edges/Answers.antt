@@ -1,8 +1,7 @@
-use Rattle.std.proofs.Common.{◌≡◌, ℕ, ◌<◌, ◌≤◌, ◌^◌, ◌++◌, ◌∷◌, [], Bool, List, length, map, take, cond, get_or, slice_get, Some, IfOk, ◌+◌, refl, sym, ap, ◌∙◌, subst, arith}
+use Rattle.std.proofs.Common.{◌≡◌, ℕ, ◌++◌, ◌∷◌, [], Bool, List, map, take, get_or, slice_get, ◌+◌, refl, sym, ap, ◌∙◌, subst}
 use Rattle.std.specs.List.{AllByRecursion, filter}
 use Rattle.patr_shell.specs.declared.analyses.Analysis.{Analysis}
-use Rattle.patr_shell.specs.Numbered.{places}
-use Rattle.patr_shell.specs.Charted.{starts_at, tree}
+use Rattle.patr_shell.specs.Charted.{starts_at}
 use Rattle.patr_shell.specs.Whole.{whole_at, HasKey, edge_of}
 use Rattle.patr_shell.proofs.Found.{all_more, edge_below, found_more, found_same}
 use Rattle.patr_shell.proofs.analyses.whole_edges.Goals as goal

@@ -1,4 +1,4 @@
-use Rattle.std.proofs.Common.{◌≡◌, List, map, take, slice_get}
+use Rattle.std.proofs.Common.{◌≡◌, map, take, slice_get}
 use Rattle.std.specs.List.{AllByRecursion, filter}
 use Rattle.patr_shell.specs.Whole.{whole_at, HasKey, edge_of}
 use Rattle.patr_shell.proofs.analyses.whole_edges.Given as goal

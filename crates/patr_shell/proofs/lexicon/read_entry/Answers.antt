@@ -1,6 +1,6 @@
 use Rattle.std.proofs.Common.{sym}
 use Rattle.patr_shell.proofs.LexiconLines.{stops_first, stops_second, reads_both, both_len}
-use Rattle.patr_shell.proofs.LexiconTables.{stays, extends_with}
+use Rattle.patr_grammar.proofs.Tables.{text_still, extends_with}
 use Rattle.patr_shell.proofs.lexicon.read_entry.Goals as goal
 
 pub returns-in_default-clause-refused : goal.returns-in_default-clause-refused
@@ -22,7 +22,7 @@ returns-clause-reads c =
     record {
       plain = record { word = c.in-Some.word.now; category = c.in-Some-field.category.now };
       numbers = (
-        stays table last c.in_ok-word.word.0 c.in-Some.word.now (rw c.in_ok-category.ensures.texts (extends_with table c.in-Some-field.category.now)) c.in_ok-word.ensures.number,
+        text_still table last (rw c.in_ok-category.ensures.texts (extends_with table c.in-Some-field.category.now)) c.in_ok-word.word.0 c.in-Some.word.now c.in_ok-word.ensures.number,
         c.in_ok-category.ensures.number,
       );
       read = reads_both c.args.line c.args.text.now c.cut_line.result.0.now c.cut_line.result.1.now c.cut_line-2.result.0.now c.cut_line-2.result.1.now c.in-Some.word.now c.in-Some-field.category.now

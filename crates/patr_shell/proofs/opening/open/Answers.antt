@@ -1,9 +1,8 @@
-use Rattle.std.proofs.Common.{◌≡◌, ◌+◌, ◌^◌, ◌<◌, ◌∙◌, sym, ap, subst, refl, length, arith, List, ℕ, map, string_bytes, Some}
+use Rattle.std.proofs.Common.{◌∙◌, sym, ap, subst, refl, length, arith, map, string_bytes}
 use Rattle.std.proofs.lemmas.Result.{err_from_is_err_and}
 use Rattle.patr_model.specs.Run.{Setup}
-use Rattle.patr_model.specs.FirstPass.{two_words}
 use Rattle.patr_model.specs.Table.{IsTable}
-use Rattle.patr_shell.specs.Outcome.{LooksAt, grammar, lexicon}
+use Rattle.patr_shell.specs.Outcome.{grammar, lexicon}
 use Rattle.patr_shell.proofs.FewDaughters.{are_few_daughters}
 use Rattle.patr_shell.proofs.Meanings.{are_held, are_few_rules, are_few_entries, is_opened, has_grammar, have_session, first_few}
 use Rattle.patr_shell.proofs.opening.open.Goals as goal

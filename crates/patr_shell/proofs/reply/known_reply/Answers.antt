@@ -1,11 +1,10 @@
-use Rattle.std.proofs.Common.{◌≡◌, ◌<◌, ◌++◌, ◌∷◌, [], inl, inr, List, ℕ, IfOk, IfSome, IfNone, length, codes, decimal, sym, ap, ◌∙◌, subst}
+use Rattle.std.proofs.Common.{◌≡◌, ◌++◌, ◌∷◌, [], inl, inr, List, ℕ, IfOk, IfSome, IfNone, length, codes, decimal, sym, ◌∙◌, subst}
 use Rattle.std.specs.String.{string_bytes}
 use Rattle.std.proofs.lemmas.Result.{IfOk-weaker}
 use Rattle.patr_model.specs.Chart.{HasMoreThan}
 use Rattle.patr_model.specs.Plain.{plain}
 use Rattle.patr_model.specs.Session.{look_of, line}
-use Rattle.patr_shell.specs.Charted.{Charted}
-use Rattle.patr_shell.specs.Closing.{KindsFit, IsClosed}
+use Rattle.patr_shell.specs.Closing.{IsClosed}
 use Rattle.patr_shell.specs.Spoken.{grounds}
 use Rattle.patr_shell.specs.Whole.{trees, AreAll}
 use Rattle.patr_shell.specs.Known.{ids, analysis_lines, IsReplyToKnown}

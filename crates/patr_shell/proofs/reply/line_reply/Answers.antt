@@ -1,4 +1,4 @@
-use Rattle.std.proofs.Common.{◌≡◌, ◌<◌, ◌≤◌, [], ℕ, List, length, map, get_or, Bor, false, sym, ap, ◌∙◌, subst, arith, lit<, eq-eqb, vec_len}
+use Rattle.std.proofs.Common.{◌≡◌, ◌<◌, [], ℕ, List, length, map, get_or, Bor, sym, ap, ◌∙◌, subst, arith, lit<, eq-eqb, vec_len}
 use Rattle.std.specs.Bool.{Decides}
 use Rattle.std.specs.String.{string_bytes}
 use Rattle.std.proofs.lemmas.List.{length-map}

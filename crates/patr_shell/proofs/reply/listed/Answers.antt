@@ -1,4 +1,4 @@
-use Rattle.std.proofs.Common.{◌≡◌, ◌<◌, ◌++◌, ◌∷◌, [], ℕ, List, length, take, get_or, codes, decimal, sym, ap, ◌∙◌, arith, append-nil}
+use Rattle.std.proofs.Common.{◌<◌, ◌++◌, length, take, codes, decimal, sym, ap, ◌∙◌, arith, append-nil}
 use Rattle.std.specs.String.{string_bytes}
 use Rattle.patr_model.specs.Session.{look_of, line}
 use Rattle.patr_shell.specs.Spoken.{grounds}

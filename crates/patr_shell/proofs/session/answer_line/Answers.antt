@@ -1,7 +1,5 @@
-use Rattle.std.proofs.Common.{string_bytes, sym, subst, ℕ, List}
 use Rattle.patr_model.specs.Session.{without_cr}
 use Rattle.patr_shell.specs.Answering.{IsReply}
-use Rattle.patr_shell.specs.Sent.{AppendsFront}
 use Rattle.patr_shell.proofs.Fronts.{OnErr-always}
 use Rattle.patr_shell.proofs.Replying.{begun_none, begun_one, answered_one}
 use Rattle.patr_shell.proofs.session.answer_line.Goals as goal

@@ -1,4 +1,4 @@
-use Rattle.std.proofs.Common.{sym, ◌∙◌}
+use Rattle.std.proofs.Common.{sym}
 use Rattle.patr_shell.proofs.Ends.{free_at, free_of_none, cut_at_feed}
 use Rattle.patr_shell.proofs.session.cut_line.Goals as goal
 

@@ -1,11 +1,9 @@
-use Rattle.std.proofs.Common.{◌≡◌, ◌≤◌, ◌-◌, ◌++◌, [], ◌∙◌, ap, sym, subst, refl, arith, length, take, min, length-append, append-nil, ℕ, List}
+use Rattle.std.proofs.Common.{◌≡◌, ◌-◌, ◌++◌, [], ◌∙◌, arith, length, take, min, length-append, append-nil}
 use Rattle.std.proofs.lemmas.List.{length-take-le}
-use Rattle.std.specs.Io.KnownBytes.{Consumes}
-use Rattle.std.proofs.KnownBytes.{Consumes-trans, Consumes-kept}
-use Rattle.patr_shell.specs.Answering.{last_line, HasAnswered, HasBegun}
+use Rattle.std.proofs.KnownBytes.{Consumes-trans}
 use Rattle.patr_shell.proofs.Fronts.{whole_front}
 use Rattle.patr_shell.proofs.Replying.{begun_of_answered}
-use Rattle.patr_shell.proofs.SessionStanding.{Stands, stands_start, stands_free, stands_short}
+use Rattle.patr_shell.proofs.SessionStanding.{stands_free, stands_short}
 use Rattle.patr_shell.proofs.SessionReads.{stopped, ended_whole, ended_front, begun_read, stands_read, past_whole, past_front}
 use Rattle.patr_shell.proofs.session.run_session.Goals as goal
 

@@ -1,7 +1,6 @@
 use Rattle.std.proofs.Common.{◌≡◌, ◌∷◌, ◌++◌, ◌∙◌, sym, ap, take, List, ℕ}
-use Rattle.patr_shell.specs.Answering.{HasNoFeed}
 use Rattle.patr_shell.proofs.Fronts.{OnErr-always}
-use Rattle.patr_shell.proofs.InPieces.{in_piece_start, in_piece_stop, in_piece_line, in_piece_fault, in_piece_end, in_piece_left}
+use Rattle.patr_shell.proofs.InPieces.{in_piece_stop, in_piece_line, in_piece_fault, in_piece_end, in_piece_left}
 use Rattle.patr_shell.proofs.session.take_piece.Goals as goal
 
 pub returns-in_err-keep-clause-front : goal.returns-in_err-keep-clause-front

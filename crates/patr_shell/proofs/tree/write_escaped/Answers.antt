@@ -1,4 +1,4 @@
-use Rattle.std.proofs.Common.{◌≡◌, ◌++◌, flat_map, sym, ap}
+use Rattle.std.proofs.Common.{◌++◌, flat_map, sym, ap}
 use Rattle.std.specs.String.{string_bytes}
 use lib.Utf8.{encode}
 use Rattle.patr_model.specs.Text.{escaped}

@@ -1,9 +1,8 @@
-use Rattle.std.proofs.Common.{◌≡◌, ◌<◌, ◌++◌, ◌∷◌, [], List, length, sym, ap, ◌∙◌, subst}
+use Rattle.std.proofs.Common.{◌≡◌, ◌<◌, ◌++◌, ◌∷◌, [], length, sym, ap, ◌∙◌, subst}
 use Rattle.std.specs.String.{string_bytes}
 use Rattle.std.proofs.lemmas.Result.{IfOk-weaker}
 use Rattle.patr_model.specs.Session.{look_of}
-use Rattle.patr_shell.specs.declared.tree.Step.{Step}
-use Rattle.patr_shell.specs.declared.tree.Step.TheVariants.{Tree, Space, Close}
+use Rattle.patr_shell.specs.declared.tree.Step.TheVariants.{Tree, Space}
 use Rattle.patr_shell.specs.Spoken.{grounds}
 use Rattle.patr_shell.specs.Writing.{root_text, steps_weight, AreHeld, IsWritten}
 use Rattle.patr_shell.proofs.Results.{if_ok_always}

@@ -1,10 +1,9 @@
-use Rattle.std.proofs.Common.{◌≡◌, ◌++◌, sym, ap, subst}
+use Rattle.std.proofs.Common.{◌≡◌, ◌++◌, sym, subst}
 use Rattle.std.specs.String.{string_bytes}
 use Rattle.std.proofs.lemmas.Result.{IfOk-weaker}
 use lib.Utf8.{encode}
 use Rattle.patr_model.specs.Session.{look_of}
 use Rattle.patr_model.specs.Text.{printed}
-use Rattle.patr_shell.specs.declared.edge.EdgeKind.TheVariants.{Entry, Rule}
 use Rattle.patr_shell.specs.Spoken.{grounds, entry_of}
 use Rattle.patr_shell.specs.Writing.{root_text}
 use Rattle.patr_shell.proofs.TreeText.{entry_written, rule_written}

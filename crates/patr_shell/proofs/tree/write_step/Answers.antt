@@ -1,9 +1,9 @@
-use Rattle.std.proofs.Common.{◌≡◌, ◌<◌, ◌++◌, ◌∷◌, [], List, length, codes, IfOk, refl, sym, ap, ◌∙◌, subst, lit<}
+use Rattle.std.proofs.Common.{◌≡◌, ◌<◌, ◌++◌, ◌∷◌, [], codes, IfOk, refl, sym, subst, lit<}
 use Rattle.std.specs.String.{string_bytes}
 use Rattle.std.proofs.lemmas.Result.{IfOk-weaker}
 use lib.Utf8.{encode}
 use Rattle.patr_model.specs.Session.{look_of}
-use Rattle.patr_shell.specs.declared.tree.Step.TheVariants.{Tree, Space, Close}
+use Rattle.patr_shell.specs.declared.tree.Step.TheVariants.{Space, Close}
 use Rattle.patr_shell.specs.Spoken.{grounds}
 use Rattle.patr_shell.specs.Writing.{steps_weight, IsWritten}
 use Rattle.patr_shell.proofs.Results.{if_ok_is, if_ok_always}

@@ -1,5 +1,5 @@
-use Rattle.std.proofs.Common.{◌≡◌, ◌<◌, ◌++◌, ◌∷◌, [], List, length, sym, ap, ◌∙◌, subst}
-use Rattle.patr_shell.specs.Writing.{IsHeld, AreHeld}
+use Rattle.std.proofs.Common.{◌∷◌, [], length, subst}
+use Rattle.patr_shell.specs.Writing.{AreHeld}
 use Rattle.patr_shell.proofs.TreeText.{held_split}
 use Rattle.patr_shell.proofs.tree.write_tree.Goals as goal
 

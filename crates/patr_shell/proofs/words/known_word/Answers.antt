@@ -1,4 +1,4 @@
-use Rattle.std.proofs.Common.{◌≡◌, ◌<◌, length, sym, ◌∙◌, eqb-true, eq-eqb}
+use Rattle.std.proofs.Common.{length, sym, eqb-true, eq-eqb}
 use Rattle.std.proofs.lemmas.Option.{slice_get_within}
 use Rattle.patr_shell.proofs.KnownWords.{not_held, no_entries, some_entries}
 use Rattle.patr_shell.proofs.words.known_word.Goals as goal

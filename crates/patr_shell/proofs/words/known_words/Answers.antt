@@ -1,8 +1,8 @@
-use Rattle.std.proofs.Common.{◌≡◌, ◌<◌, ◌+◌, ◌++◌, ◌∷◌, [], ℕ, List, length, map, take, get_or, Bor, sym, ap, ◌∙◌, subst, arith, length-append}
+use Rattle.std.proofs.Common.{◌≡◌, ◌<◌, ◌++◌, ◌∷◌, [], ℕ, List, length, map, take, get_or, Bor, sym, ap, ◌∙◌, subst, arith, length-append}
 use Rattle.std.specs.List.{AllByRecursion}
 use Rattle.std.proofs.lemmas.List.{length-map}
 use Rattle.patr_text.specs.declared.symbols.Id.{Id}
-use Rattle.patr_model.specs.Session.{Numbering, AgreesWith, IsKnown}
+use Rattle.patr_model.specs.Session.{IsKnown}
 use Rattle.patr_shell.specs.Spoken.{grounds}
 use Rattle.patr_shell.specs.Known.{ids}
 use Rattle.patr_shell.proofs.Found.{all_more}

@@ -1,4 +1,4 @@
-use Rattle.std.proofs.Common.{◌≡◌, ◌++◌, ◌∷◌, [], List, ℕ, length, map, Bor, sym, ap, ◌∙◌, lit<, eqb-true, eq-eqb, append-nil}
+use Rattle.std.proofs.Common.{◌++◌, ◌∷◌, [], List, ℕ, length, map, Bor, sym, ap, ◌∙◌, lit<, eqb-true, eq-eqb}
 use Rattle.std.proofs.lemmas.List.{map-append}
 use Rattle.std.proofs.lemmas.Iterator.Consumers.{YieldsList-end}
 use Rattle.std.proofs.lemmas.Iterator.Splits.{YieldsList-from_str_split}

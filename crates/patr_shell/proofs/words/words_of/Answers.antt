@@ -1,4 +1,4 @@
-use Rattle.std.proofs.Common.{◌≡◌, ◌++◌, ◌∷◌, [], List, ℕ, map, flat_map, Bor, sym, ap, ◌∙◌, lit<}
+use Rattle.std.proofs.Common.{◌∷◌, [], List, ℕ, map, flat_map, Bor, sym, ap, ◌∙◌, lit<}
 use Rattle.std.proofs.lemmas.List.{map-append}
 use Rattle.std.proofs.lemmas.Iterator.Consumers.{YieldsList-end}
 use Rattle.std.proofs.lemmas.Iterator.Splits.{YieldsList-from_str_split}
