@@ -1,13 +1,20 @@
 -- The words and the files of a run come to one opening, and a run has one text and one ending.
-use Rattle.std.proofs.Common.{◌≡◌, inl, inr, ℕ, Bool, List, [], ◌++◌, length, take, Option, Some, Ok, Err, refl, sym, ap, ◌∙◌, subst, arith, IsUtf8, nat_lt, ltb-true, ltb-false, true, false, true≢false, codes, ◌^◌}
+use Rattle.std.proofs.Common.{◌≡◌, inl, inr, ℕ, Bool, List, ◌++◌, length, take, Option, Some, refl, sym, ap, ◌∙◌, subst, arith, IsUtf8, nat_lt, ltb-true, ltb-false, true, false, true≢false, codes, ◌^◌}
 use Rattle.std.proofs.Math.Seq.{take-length}
 use Rattle.patr_model.specs.Session.{Numbering, Grounds, State, Command, Replied, line, lines_of, whole_lines_of}
 use Rattle.patr_model.specs.Run.{Ending, Setup, Notations, Opening, Session, Refusal, BadGrammar, BadLexicon, first_state, IsSession, ended, quit, too_long, AfterGrammar, absent, long, fault, refused, built, AfterWords, read, IsOpening, Follows, IsOut}
-use Rattle.patr_model.specs.Tokens.{after, start_place}
-use Rattle.patr_model.specs.FirstPass.{PlainRule, PlainEntry, Got, Stops, rules, StopsUtf8, ReadsRules, RulesTrouble, RefusesRules, rules_line, RulesFault, Entries, StopsAtLine, ReadsEntries, EntriesTrouble, RefusesEntries, entries_line, EntriesFault, stop, first_pass}
+use Rattle.patr_model.specs.Stages.{Stage}
+use Rattle.patr_model.specs.Productions.{Grammar}
+use Rattle.patr_model.specs.Faults.{StopsUtf8}
+use Rattle.patr_model.specs.GrammarText as grammar_text
+use Rattle.patr_model.specs.GrammarText.{ReadsGrammar, GrammarFault, IsRead, RefusesGrammar, grammar_fault_line, HasGrammarFault}
+use Rattle.patr_model.specs.LexiconText as lexicon_text
+use Rattle.patr_model.specs.LexiconText.{EntryText, ReadsLexicon, LexiconFault, AreRead, RefusesLexicon, lexicon_fault_line, HasLexiconFault}
+use Rattle.patr_model.specs.Built as notations
+use Rattle.patr_model.specs.Built.{stage}
 use Rattle.patr_model.proofs.Maps.{some_inj}
 use Rattle.patr_model.proofs.Canonical.{least_texts}
-use Rattle.patr_model.proofs.RenamedRuns.{one_session, first_pass_same}
+use Rattle.patr_model.proofs.RenamedRuns.{one_session, built_same}
 
 -- Notations that read, refuse and build one thing, and read nothing that they refuse.
 module _ (notation : Notations) (N : Numbering)
@@ -95,12 +102,14 @@ module _ (notation : Notations) (N : Numbering)
       let e = some_inj h.0 k.0 (sym h.1 ∙ k.1) in
       after_words k.0 files o u (subst (λ z. AfterWords notation N z files o) e h.2) k.2
 
--- ---- the first notations
+-- ---- the notations that are built
 
-whole_text : (b : List ℕ) (n : ℕ) → IsUtf8 b → StopsUtf8 b n → ⊥
+-- bytes that are a text stop nowhere
+pub whole_text : (b : List ℕ) (n : ℕ) → IsUtf8 b → StopsUtf8 b n → ⊥
 whole_text b n u s = s.2 (length b) s.0 (omega arith) (subst IsUtf8 (sym (take-length b)) u)
 
-one_stop : (b : List ℕ) (n m : ℕ) → StopsUtf8 b n → StopsUtf8 b m → n ≡ m
+-- bytes that are no text stop at one place
+pub one_stop : (b : List ℕ) (n m : ℕ) → StopsUtf8 b n → StopsUtf8 b m → n ≡ m
 one_stop b n m s t = go (nat_lt n m) refl (nat_lt m n) refl
   where
     go : (x : Bool) → nat_lt n m ≡ x → (y : Bool) → nat_lt m n ≡ y → n ≡ m
@@ -108,65 +117,52 @@ one_stop b n m s t = go (nat_lt n m) refl (nat_lt m n) refl
     go false e true f = let l = s.0 in absurd (t.2 n (ltb-true m n f) (omega arith) s.1)
     go false e false f = let l = ltb-false n m e in let k = ltb-false m n f in omega arith
 
-one_rules : (b : List ℕ) (g h : List PlainRule) → ReadsRules b g → ReadsRules b h → g ≡ h
-one_rules b g h r s =
-    let e : Ok r.1 ≡ Ok s.1 = sym r.2 ∙ s.2 in
-    let f : r.1 ≡ s.1 = cc in
-    let t : Got g [] ≡ Got h [] = sym r.3 ∙ (ap rules f ∙ s.3) in
-    cc
+-- bytes stand for one grammar
+pub one_grammar : (s : Stage) (b : List ℕ) (g h : Grammar (List ℕ)) → ReadsGrammar s b g → ReadsGrammar s b h → g ≡ h
+one_grammar s b g h r t = let e : grammar_text.Reads g ≡ grammar_text.Reads h = sym r.1 ∙ t.1 in cc
 
-no_rules_fault : (b x : List ℕ) (g : List PlainRule) → ReadsRules b g → RulesFault b x → ⊥
-no_rules_fault b x g r f = go f.0 f.1
+-- bytes that stand for a grammar have no fault
+pub no_grammar_fault : (s : Stage) (b x : List ℕ) (g : Grammar (List ℕ)) → ReadsGrammar s b g → HasGrammarFault s b x → ⊥
+no_grammar_fault s b x g r f = go f.0 f.1
   where
-    go : (t : RulesTrouble) → RefusesRules b t → ⊥
-    go (RulesTrouble.NotText n) h = whole_text b n r.0 h
-    go (RulesTrouble.BadToken p) h = let e = sym r.2 ∙ h.1 in cc
-    go (RulesTrouble.NotBuilt p) h =
-        let e : Ok r.1 ≡ Ok h.1 = sym r.2 ∙ h.3 in
-        let f : r.1 ≡ h.1 = cc in
-        let t = sym r.3 ∙ (ap rules f ∙ h.4) in
-        cc
+    go : (t : GrammarFault) → RefusesGrammar s b t → ⊥
+    go (GrammarFault.NotText n) h = whole_text b n r.0 h
+    go (GrammarFault.Misread m) h = h.2 (subst IsRead (sym r.1 ∙ h.1) tt)
 
-one_rules_fault : (b x y : List ℕ) → RulesFault b x → RulesFault b y → x ≡ y
-one_rules_fault b x y f g = f.2 ∙ (ap rules_line (go f.0 g.0 f.1 g.1) ∙ sym g.2)
+-- bytes that stand for no grammar have one fault line
+pub one_grammar_fault : (s : Stage) (b x y : List ℕ) → HasGrammarFault s b x → HasGrammarFault s b y → x ≡ y
+one_grammar_fault s b x y f g = f.2 ∙ (ap grammar_fault_line (go f.0 g.0 f.1 g.1) ∙ sym g.2)
   where
-    go : (t u : RulesTrouble) → RefusesRules b t → RefusesRules b u → t ≡ u
-    go (RulesTrouble.NotText n) (RulesTrouble.NotText m) h k = ap (λ z. RulesTrouble.NotText z) (one_stop b n m h k)
-    go (RulesTrouble.NotText n) (RulesTrouble.BadToken q) h k = absurd (whole_text b n k.0 h)
-    go (RulesTrouble.NotText n) (RulesTrouble.NotBuilt q) h k = absurd (whole_text b n k.0 h)
-    go (RulesTrouble.BadToken p) (RulesTrouble.NotText m) h k = absurd (whole_text b m h.0 k)
-    go (RulesTrouble.BadToken p) (RulesTrouble.BadToken q) h k = let e : Err p ≡ Err q = sym h.1 ∙ k.1 in cc
-    go (RulesTrouble.BadToken p) (RulesTrouble.NotBuilt q) h k = let e = sym h.1 ∙ k.3 in cc
-    go (RulesTrouble.NotBuilt p) (RulesTrouble.NotText m) h k = absurd (whole_text b m h.0 k)
-    go (RulesTrouble.NotBuilt p) (RulesTrouble.BadToken q) h k = let e = sym h.3 ∙ k.1 in cc
-    go (RulesTrouble.NotBuilt p) (RulesTrouble.NotBuilt q) h k =
-        let e : Ok h.1 ≡ Ok k.1 = sym h.3 ∙ k.3 in
-        let f : h.1 ≡ k.1 = cc in
-        let t : Stops h.2 ≡ Stops k.2 = sym h.4 ∙ (ap rules f ∙ k.4) in
-        let r : h.2 ≡ k.2 = cc in
-        ap (λ z. RulesTrouble.NotBuilt z) (h.5 ∙ (ap (stop (after start_place b)) r ∙ sym k.5))
+    go : (t u : GrammarFault) → RefusesGrammar s b t → RefusesGrammar s b u → t ≡ u
+    go (GrammarFault.NotText n) (GrammarFault.NotText m) h k = ap (λ z. GrammarFault.NotText z) (one_stop b n m h k)
+    go (GrammarFault.NotText n) (GrammarFault.Misread q) h k = absurd (whole_text b n k.0 h)
+    go (GrammarFault.Misread p) (GrammarFault.NotText m) h k = absurd (whole_text b m h.0 k)
+    go (GrammarFault.Misread p) (GrammarFault.Misread q) h k = ap (λ z. GrammarFault.Misread z) (sym h.1 ∙ k.1)
 
-one_entries : (b : List ℕ) (l k : List PlainEntry) → ReadsEntries b l → ReadsEntries b k → l ≡ k
-one_entries b l k r s = let e : Entries l ≡ Entries k = sym r.1 ∙ s.1 in cc
+-- bytes stand for one list of entries
+pub one_lexicon : (s : Stage) (b : List ℕ) (l k : List EntryText) → ReadsLexicon s b l → ReadsLexicon s b k → l ≡ k
+one_lexicon s b l k r t = let e : lexicon_text.Reads l ≡ lexicon_text.Reads k = sym r.1 ∙ t.1 in cc
 
-no_entries_fault : (b x : List ℕ) (l : List PlainEntry) → ReadsEntries b l → EntriesFault b x → ⊥
-no_entries_fault b x l r f = go f.0 f.1
+-- bytes that stand for entries have no fault
+pub no_lexicon_fault : (s : Stage) (b x : List ℕ) (l : List EntryText) → ReadsLexicon s b l → HasLexiconFault s b x → ⊥
+no_lexicon_fault s b x l r f = go f.0 f.1
   where
-    go : (t : EntriesTrouble) → RefusesEntries b t → ⊥
-    go (EntriesTrouble.NotText n) h = whole_text b n r.0 h
-    go (EntriesTrouble.NotBuilt k) h = let e = sym r.1 ∙ h.1 in cc
+    go : (t : LexiconFault) → RefusesLexicon s b t → ⊥
+    go (LexiconFault.NotText n) h = whole_text b n r.0 h
+    go (LexiconFault.Misread m) h = h.2 (subst AreRead (sym r.1 ∙ h.1) tt)
 
-one_entries_fault : (b x y : List ℕ) → EntriesFault b x → EntriesFault b y → x ≡ y
-one_entries_fault b x y f g = f.2 ∙ (ap entries_line (go f.0 g.0 f.1 g.1) ∙ sym g.2)
+-- bytes that stand for no entries have one fault line
+pub one_lexicon_fault : (s : Stage) (b x y : List ℕ) → HasLexiconFault s b x → HasLexiconFault s b y → x ≡ y
+one_lexicon_fault s b x y f g = f.2 ∙ (ap lexicon_fault_line (go f.0 g.0 f.1 g.1) ∙ sym g.2)
   where
-    go : (t u : EntriesTrouble) → RefusesEntries b t → RefusesEntries b u → t ≡ u
-    go (EntriesTrouble.NotText n) (EntriesTrouble.NotText m) h k = ap (λ z. EntriesTrouble.NotText z) (one_stop b n m h k)
-    go (EntriesTrouble.NotText n) (EntriesTrouble.NotBuilt j) h k = absurd (whole_text b n k.0 h)
-    go (EntriesTrouble.NotBuilt i) (EntriesTrouble.NotText m) h k = absurd (whole_text b m h.0 k)
-    go (EntriesTrouble.NotBuilt i) (EntriesTrouble.NotBuilt j) h k = let e : StopsAtLine i ≡ StopsAtLine j = sym h.1 ∙ k.1 in cc
+    go : (t u : LexiconFault) → RefusesLexicon s b t → RefusesLexicon s b u → t ≡ u
+    go (LexiconFault.NotText n) (LexiconFault.NotText m) h k = ap (λ z. LexiconFault.NotText z) (one_stop b n m h k)
+    go (LexiconFault.NotText n) (LexiconFault.Misread q) h k = absurd (whole_text b n k.0 h)
+    go (LexiconFault.Misread p) (LexiconFault.NotText m) h k = absurd (whole_text b m h.0 k)
+    go (LexiconFault.Misread p) (LexiconFault.Misread q) h k = ap (λ z. LexiconFault.Misread z) (sym h.1 ∙ k.1)
 
-pub openings_are_one : (N : Numbering) (words : List (List ℕ)) (files : List ℕ → Option (List ℕ)) (o u : Opening) → IsOpening first_pass N words files o → IsOpening first_pass N words files u → o ≡ u
-openings_are_one N = one_opening first_pass N one_rules one_rules_fault no_rules_fault one_entries one_entries_fault no_entries_fault
+pub openings_are_one : (N : Numbering) (words : List (List ℕ)) (files : List ℕ → Option (List ℕ)) (o u : Opening) → IsOpening notations.built N words files o → IsOpening notations.built N words files u → o ≡ u
+openings_are_one N = one_opening notations.built N (one_grammar stage) (one_grammar_fault stage) (no_grammar_fault stage) (one_lexicon stage) (one_lexicon_fault stage) (no_lexicon_fault stage)
     (λ g l x y e f r t. absurd r) (λ g l x e s b r. r) (λ g l s s' b c. b ∙ sym c)
 
 -- ---- the session
@@ -187,13 +183,13 @@ module _ (notation : Notations) (s : Grounds) (one_more : (st : State) (c : Comm
   session_one st input x y e f (too_long l b r t p) (too_long l' b' r' t' p') =
       (t ∙ (ap (λ z. z ++ line (codes "error: input longer than 16777216 bytes")) (one_end st (whole_lines_of (take (2 ^ 24) input)) b b' false false r r').0 ∙ sym t'), p ∙ sym p')
 
-follows_one : (o : Opening) (input x y : List ℕ) (e f : Ending) → Follows first_pass o input x e → Follows first_pass o input y f → (x ≡ y) × (e ≡ f)
-follows_one (Session s st) input x y e f h k = session_one first_pass s (λ st c x y m n. absurd m) st input x y e f h k
+follows_one : (o : Opening) (input x y : List ℕ) (e f : Ending) → Follows notations.built o input x e → Follows notations.built o input y f → (x ≡ y) × (e ≡ f)
+follows_one (Session s st) input x y e f h k = session_one notations.built s (λ st c x y m n. absurd m) st input x y e f h k
 follows_one (Refusal before end) input x y e f h k = (h.0 ∙ sym k.0, h.1 ∙ sym k.1)
 
 pub runs_are_one : (N X : Numbering) (words : List (List ℕ)) (files : List ℕ → Option (List ℕ)) (input x y : List ℕ) (e f : Ending)
-    → IsOut first_pass N words files input x e → IsOut first_pass X words files input y f → (x ≡ y) × (e ≡ f)
+    → IsOut notations.built N words files input x e → IsOut notations.built X words files input y f → (x ≡ y) × (e ≡ f)
 runs_are_one N X words files input x y e f h k =
-    let moved = first_pass_same N X words files input x e h in
+    let moved = built_same N X words files input x e h in
     let same = openings_are_one X words files moved.0 k.0 moved.1 k.1 in
-    follows_one k.0 input x y e f (subst (λ o. Follows first_pass o input x e) same moved.2) k.2
+    follows_one k.0 input x y e f (subst (λ o. Follows notations.built o input x e) same moved.2) k.2

@@ -10,31 +10,31 @@ use Rattle.patr_model.specs.Chart.{IsIn, InChart, word, first, predicted, extend
 use Rattle.patr_model.specs.Session.{Numbering, Grounds, State, look_of, line, lines_of, IsKnown, IsSentenceReply, IsLineReply, Replied}
 use Rattle.patr_model.specs.Text.{printed, tree_text}
 use Rattle.patr_model.specs.Run.{Done, Session, first_state, IsOut, IsSession}
-use Rattle.patr_model.specs.FirstPass.{first_pass, plain_grounds, plain_rules, bad_command}
+use Rattle.patr_model.specs.Built.{plain_variants, plain_grounds, built}
 use Rattle.patr_model.proofs.Maps.{some_inj}
 use Rattle.patr_model.proofs.Counting.{no_more}
-use Rattle.patr_model.proofs.TinyRun.{two_files, read_rules, read_entries, setup, opens}
+use Rattle.patr_model.proofs.TinyRun.{two_files, read_grammar, read_entries, setup, opens}
 
 module _ (N : Numbering) where
   abbrev s : Grounds
-  s = plain_grounds N read_rules read_entries
+  s = plain_grounds N read_grammar read_entries
 
   abbrev g : Rules
-  g = plain_rules N read_rules read_entries
+  g = plain_variants N read_grammar read_entries
 
   abbrev st : State
   st = first_state setup
 
   -- what the lines are answered is what the run writes
-  whole_run : (input text : List ℕ) → length input ≤ 16777216 → Replied first_pass.judge first_pass.lines s st (lines_of input) text false
-      → IsOut first_pass N (codes "g" ∷ codes "l" ∷ []) two_files input text Done
+  whole_run : (input text : List ℕ) → length input ≤ 16777216 → Replied built.judge built.lines s st (lines_of input) text false
+      → IsOut built N (codes "g" ∷ codes "l" ∷ []) two_files input text Done
   whole_run input text l r = (Session s st, opens N, IsSession.ended l false r refl)
 
   -- every command is a bad one
-  pub command : IsOut first_pass N (codes "g" ∷ codes "l" ∷ []) two_files (codes ":quit\n") (codes "error: bad command\n") Done
+  pub command : IsOut built N (codes "g" ∷ codes "l" ∷ []) two_files (codes ":quit\n") (codes "error: bad command\n") Done
   unfolding lib.Utf8.encode
   command = whole_run (codes ":quit\n") (codes "error: bad command\n") (omega arith)
-      (inr (λ q. let e = q.2 in cc, bad_command, st, [], IsLineReply.spelled (omega arith) (codes ":quit", (refl, refl)) (refl, refl), (refl, refl), refl))
+      (inr (λ q. let e = q.2 in cc, codes "error: bad command\n", st, [], IsLineReply.spelled (omega arith) (codes ":quit", (refl, refl)) (refl, refl), (refl, refl), refl))
 
   one_number : (x y : List ℕ) → N.number x ≡ N.number y → x ≡ y
   one_number x y e = sym (N.back x) ∙ (ap N.text e ∙ N.back y)
@@ -57,7 +57,7 @@ module _ (N : Numbering) where
       let x = one_number (codes "a") (codes "b") (ap (λ v. v.word) (sym e.2) ∙ h.4) in
       true≢false (ap (λ t. same_text t (codes "a")) x)
 
-  pub unknown : IsOut first_pass N (codes "g" ∷ codes "l" ∷ []) two_files (codes "b") (codes "error: unknown word at 1: b\n") Done
+  pub unknown : IsOut built N (codes "g" ∷ codes "l" ∷ []) two_files (codes "b") (codes "error: unknown word at 1: b\n") Done
   unfolding lib.Utf8.encode digits
   unknown = whole_run (codes "b") (codes "error: unknown word at 1: b\n") (omega arith)
       (inr (
@@ -202,7 +202,7 @@ module _ (N : Numbering) where
       ap (λ t. as_text t (N.text (N.number (codes "A"))) (N.text (N.number (codes "a")))) (N.back (codes "S"))
       ∙ (ap (λ t. as_text (codes "S") t (N.text (N.number (codes "a")))) (N.back (codes "A")) ∙ ap (λ t. as_text (codes "S") (codes "A") t) (N.back (codes "a")))
 
-  pub sentence : IsOut first_pass N (codes "g" ∷ codes "l" ∷ []) two_files (codes "a\n") (codes "analyses 1\n1 (S (A a))\n") Done
+  pub sentence : IsOut built N (codes "g" ∷ codes "l" ∷ []) two_files (codes "a\n") (codes "analyses 1\n1 (S (A a))\n") Done
   unfolding lib.Utf8.encode digits noun
   sentence = whole_run (codes "a\n") (codes "analyses 1\n1 (S (A a))\n") (omega arith)
       (inr (

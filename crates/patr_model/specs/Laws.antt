@@ -47,6 +47,7 @@ pub record StepsOfEdges (g : Rules) (a p : Derivation) (A : Structure) (v : Valu
   pub complete : (U : Structure) (u : Value) → IsUnifier A v (suc (seen a) ∷ []) P w U u → IsComplete g (Extend a p)
       → (m : Value) × (arc U u 0 ≡ Some m) × IsLeastValue g (Extend a p) U m
 
+-- An edge is extended by unification: the unifier of the two edges' least values is that of the longer tree, or has it as the mother's value.
 abbrev pub UnifierIsLeastValue : Type 0
 UnifierIsLeastValue = (g : Rules) (a p : Derivation) (A : Structure) (v : Value) (P : Structure) (w : Value)
     → IsPartial g a → IsComplete g p → IsLeastValue g a A v → IsLeastValue g p P w → StepsOfEdges g a p A v P w
@@ -70,6 +71,7 @@ pub record IsLicensedSet (j : Judgement) (g : Rules) (ws : List ℕ) (t : Deriva
   pub has_list : InChart j g ws t → (ts : List Derivation) × IsLicensed j g ws ts × IsIn ts t
   pub in_list : (ts : List Derivation) → IsLicensed j g ws ts → IsIn ts t → InChart j g ws t
 
+-- the edges of the closed chart, plain or by solutions, are those that stand in licensed lists
 pub record ChartIsLicensed : Type 0 where
   pub of_solved : (g : Rules) (cat : ℕ) (ws : List ℕ) (t : Derivation) → IsLicensedSet (solved g cat) g ws t
   pub of_plain : (g : Rules) (ws : List ℕ) (t : Derivation) → IsLicensedSet (plain g) g ws t
@@ -99,6 +101,7 @@ LeastTextsAreOne s = (t : Derivation) (x y : List ℕ) → IsLeastText s t x →
 abbrev pub RepliesAreOne : (judge : Rules → ℕ → Judgement) → Type 0
 RepliesAreOne judge = (s : Grounds) (st : State) (ws : List (List ℕ)) (x y : List ℕ) → IsSentenceReply judge s st ws x → IsSentenceReply judge s st ws y → x ≡ y
 
+-- a sentence has one reply, by the plain chart and by the chart of solutions
 pub record OneReply : Type 0 where
   pub plain : RepliesAreOne (λ g cat. plain g)
   pub solved : RepliesAreOne solved
@@ -112,6 +115,7 @@ pub record CategoriesAreOne (g : Rules) (t : Derivation) (A : Structure) (v : Va
   pub slot : IsPartial g t → (k : ℕ) (x y : Value) → arc A v k ≡ Some x → arc B w k ≡ Some y → category g.restrictor A x ≡ category g.restrictor B y
   pub value : category g.restrictor A v ≡ category g.restrictor B w
 
+-- a restricted category is the same, from whichever least value of a derivation it is taken
 abbrev pub CategoriesAreOneAll : Type 0
 CategoriesAreOneAll = (g : Rules) (t : Derivation) (A : Structure) (v : Value) (B : Structure) (w : Value) → IsLeastValue g t A v → IsLeastValue g t B w → CategoriesAreOne g t A v B w
 
@@ -120,6 +124,7 @@ pub record SameCharts (g : Rules) (cat : ℕ) (ws : List ℕ) (t : Derivation) :
   pub solved_in_plain : InChart (solved g cat) g ws t → InChart (plain g) g ws t
   pub plain_in_solved : HaveLeastValues g cat ws → InChart (plain g) g ws t → InChart (solved g cat) g ws t
 
+-- without written equations, categories alone give the same edges as unification, as far as least values are there
 abbrev pub PlainChartIsSolved : Type 0
 PlainChartIsSolved = (g : Rules) (cat : ℕ) → IsBare g cat → (ws : List ℕ) (t : Derivation) → SameCharts g cat ws t
 
@@ -132,6 +137,7 @@ pub record TextIsStructure (l : Look) (S : Structure) (v : Value) (G : Structure
   pub one_text : Same S v G w → canonical l S v ≡ canonical l G w
   pub one_structure : TextsDiffer l → canonical l S v ≡ canonical l G w → Same S v G w
 
+-- two values of structures are the same exactly where their canonical texts are, if different symbols have different texts
 abbrev pub CanonicalTexts : Type 0
 CanonicalTexts = (l : Look) (S : Structure) (v : Value) (G : Structure) (w : Value) → IsStructure S → IsValue S v → IsStructure G → IsValue G w → TextIsStructure l S v G w
 
@@ -145,6 +151,7 @@ pub record ReadsText (l : Look) (number : List ℕ → ℕ) (text : List ℕ) : 
   pub found : TextsDiffer l → HasSymbols l number text → (S : Structure) (v : Value) → HasText l S v text → (r : Built) × (read l number text ≡ Some r) × Same S v r.nodes r.value
   pub refused : TextsDiffer l → HasSymbols l number text → read l number text ≡ None → (S : Structure) (v : Value) → HasText l S v text → ⊥
 
+-- each text is read back as a value that prints so, or as none where no value does, if symbols and texts belong together one to one
 abbrev pub TextsAreRead : Type 0
 TextsAreRead = (l : Look) (number : List ℕ → ℕ) (text : List ℕ) → ReadsText l number text
 
@@ -177,6 +184,7 @@ pub record WalkIsWhole (l : Look) (S : Structure) (v : Value) : Type 0 where
   pub numbered : (n : ℕ) → 0 < number_in (tree_of l S v) n → IsShared S v n
   pub shared : (n : ℕ) → IsShared S v n → 0 < number_in (tree_of l S v) n
 
+-- the walk from a value of a structure visits each node that is reached, once, and numbers the reentrant ones
 abbrev pub WalksAreWhole : Type 0
 WalksAreWhole = (l : Look) (S : Structure) (v : Value) → IsStructure S → IsValue S v → WalkIsWhole l S v
 
@@ -188,6 +196,7 @@ IsOneWord text = front text ≡ Piece Word (length text)
 abbrev pub is_special : ℕ → Bool
 is_special b = nat_eq b 34 || nat_eq b 92 || nat_eq b 35
 
+-- the text has no `"`, no `\` and no `#`
 abbrev pub HasNoSpecial : List ℕ → Type 0
 HasNoSpecial text = AllByRecursion (λ b. is_special b ≡ false) text
 
@@ -219,6 +228,7 @@ pub record EventsTell (l : Look) (S : Structure) (v : Value) : Type 0 where
   pub number : (before behind : List ℕ) (n : ℕ) → visits (tree_of l S v) ≡ before ++ n ∷ behind → place_in before n ≡ None
       → number_in (tree_of l S v) n ≡ cond (is_some (place_in (repeats (tree_of l S v)) n)) (suc (length (kept (repeats (tree_of l S v)) before))) 0
 
+-- the walk over a structure can be made with a stack of begun nodes, and its events tell a value's text
 pub record WalksByStack : Type 0 where
   pub steps : (l : Look) (S : Structure) → IsStructure S → WalkByStack l S
   pub told : (l : Look) (S : Structure) (v : Value) → EventsTell l S v
@@ -240,6 +250,7 @@ pub record MapsByPairs (S : Structure) (v : Value) (G : Structure) (w : Value) :
   pub measure : (m : ℕ → Option Value) (ps : List Pair) (n : ℕ) (y : Value) (qs : List Pair) → m n ≡ None → pairs_of G y (arcs_of S (Node n)) ≡ Some qs
       → length (qs ++ ps) + left_over (set_image m n y) 0 S ≡ length ps + left_over m 0 S
 
+-- subsumption between values of structures is decided by looking at pairs, one after another
 abbrev pub MapsByPairsAll : Type 0
 MapsByPairsAll = (S : Structure) (v : Value) (G : Structure) (w : Value) → IsStructure S → IsStructure G → IsValue G w → MapsByPairs S v G w
 
@@ -265,6 +276,7 @@ pub record ReadsByItems (l : Look) : Type 0 where
   -- where nothing is left of the text, nothing is expected
   pub ended : (e : Expect) (d : ℕ) (left : List Event) → Follows left e d → text_of l left ≡ [] → left ≡ []
 
+-- a canonical text is read event by event, whatever the texts of the symbols are
 abbrev pub ReadsByItemsAll : Type 0
 ReadsByItemsAll = (l : Look) → ReadsByItems l
 
@@ -273,6 +285,7 @@ pub record TableGives (table : List (List ℕ)) (order : List ℕ) : Type 0 wher
   pub differ : IsTable table → TextsDiffer (table_look table order)
   pub symbols : (text : List ℕ) → ((o : Outline (List ℕ)) → parsed text ≡ Some o → AllTexts (IsInTable table) o) → HasSymbols (table_look table order) (table_number table) text
 
+-- each table of different texts serves for canonical texts, both to write them and to read them back
 abbrev pub TablesGive : Type 0
 TablesGive = (table : List (List ℕ)) (order : List ℕ) → TableGives table order
 
@@ -280,6 +293,7 @@ TablesGive = (table : List (List ℕ)) (order : List ℕ) → TableGives table o
 abbrev pub GiveOneText : Look → Look → ℕ → Type 0
 GiveOneText l m c = l.text c ≡ m.text c
 
+-- the property holds of the atom, where the value is one
 abbrev pub OfValue : (ℕ → Type 0) → Value → Type 0
 OfValue P (Atom c) = P c
 OfValue P (Node n) = Unit {0}

@@ -16,7 +16,16 @@ pub mod Run
 pub mod Samples
 pub mod Settled
 pub mod Tokens
-pub mod FirstPass
+pub mod Lexemes
+pub mod Parsing
+pub mod Stages
+pub mod Productions
+pub mod Faults
+pub mod GrammarText
+pub mod LexiconLines
+pub mod LexiconText
+pub mod CommandLine
+pub mod Built
 pub mod Reading
 pub mod Stack
 pub mod Pairs
@@ -29,4 +38,6 @@ pub mod Variants
 pub mod Chains
 pub mod Longer
 pub mod Renaming
+pub mod Agreeing
+pub mod Spelling
 pub mod Openings

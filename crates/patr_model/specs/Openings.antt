@@ -3,18 +3,18 @@ use Rattle.std.specs.Prelude.{◌≡◌, ℕ, List, [], ◌∷◌, ◌++◌, Boo
 use Rattle.patr_model.specs.Plain.{plain}
 use Rattle.patr_model.specs.Session.{Numbering, AgreesWith, Grounds, State, LineForms, Judge, IsQuit, IsLineReply, Replied}
 use Rattle.patr_model.specs.Run.{Ending, Opening, IsOpening, IsOut}
-use Rattle.patr_model.specs.FirstPass.{first_pass, sentences_alone}
+use Rattle.patr_model.specs.Built.{sentences_alone, built}
 use Rattle.patr_model.specs.Table.{IsTable}
 
 -- the words and the files come to one opening
 abbrev pub OpeningsAreOne : Type 0
 OpeningsAreOne = (N : Numbering) (words : List (List ℕ)) (files : List ℕ → Option (List ℕ)) (o o' : Opening)
-    → IsOpening first_pass N words files o → IsOpening first_pass N words files o' → o ≡ o'
+    → IsOpening built N words files o → IsOpening built N words files o' → o ≡ o'
 
 -- a run has one text and one ending, whichever numberings it is read under
 abbrev pub RunsAreOne : Type 0
 RunsAreOne = (N N' : Numbering) (words : List (List ℕ)) (files : List ℕ → Option (List ℕ)) (input x y : List ℕ) (e f : Ending)
-    → IsOut first_pass N words files input x e → IsOut first_pass N' words files input y f → (x ≡ y) × (e ≡ f)
+    → IsOut built N words files input x e → IsOut built N' words files input y f → (x ≡ y) × (e ≡ f)
 
 -- the replies to lines none of which ends the session, from one state to another
 abbrev pub Answered : Judge → LineForms → Grounds → State → List (List ℕ) → List ℕ → State → Type 0

@@ -12,7 +12,7 @@ use Rattle.patr_model.specs.Plain.{plain}
 use Rattle.patr_model.specs.Solved.{solved}
 use Rattle.patr_model.specs.Session.{Numbering, Grounds, State, IsSentenceReply, IsLineReply, Replied}
 use Rattle.patr_model.specs.Run.{Ending, IsOut}
-use Rattle.patr_model.specs.FirstPass.{first_pass}
+use Rattle.patr_model.specs.Built.{built}
 
 -- lists of one length, whose members belong together
 abbrev pub Each : {X Y : Type 0} → (X → Y → Type 0) → List X → List Y → Type 0
@@ -33,30 +33,36 @@ module _ (N N' : Numbering) where
   abbrev pub AreOne : ℕ → ℕ → Type 0
   AreOne a b = (t : List ℕ) × (a ≡ N.number t) × (b ≡ N'.number t)
 
+  -- the same path from a slot
   pub record SamePath (p q : SlotPath) : Type 0 where
     pub slot : p.slot ≡ q.slot
     pub path : Each AreOne p.path q.path
 
+  -- the same right side of an equation: one atom, or one path
   abbrev pub SameTerm : Term → Term → Type 0
   SameTerm (AtomOf c) (AtomOf d) = AreOne c d
   SameTerm (AtomOf c) (PathOf q) = ⊥
   SameTerm (PathOf p) (AtomOf d) = ⊥
   SameTerm (PathOf p) (PathOf q) = SamePath p q
 
+  -- the same path equation
   pub record SameEquation (e f : Equation) : Type 0 where
     pub left : SamePath e.left f.left
     pub right : SameTerm e.right f.right
 
+  -- the same rule variant: categories and equations are the same one by one
   pub record SameRule (r s : RuleVariant) : Type 0 where
     pub categories : Each AreOne r.categories s.categories
     pub equations : Each SameEquation r.equations s.equations
 
+  -- the same entry variant: word, category, equations and chain of lexical rules
   pub record SameEntry (e f : EntryVariant) : Type 0 where
     pub word : AreOne e.word f.word
     pub category : AreOne e.category f.category
     pub equations : Each SameEquation e.equations f.equations
     pub chain : Each (Each SameEquation) e.chain f.chain
 
+  -- the same rules and entries, start symbol and restrictor
   pub record SameRules (g h : Rules) : Type 0 where
     pub rules : Each (Each SameRule) g.rules h.rules
     pub entries : Each (Each SameEntry) g.entries h.entries
@@ -70,10 +76,12 @@ module _ (N N' : Numbering) where
   SameValue (Node n) (Atom d) = ⊥
   SameValue (Node n) (Node k) = n ≡ k
 
+  -- the same attribute, and the same value
   pub record SameArc (e f : Arc) : Type 0 where
     pub attribute : AreOne e.attribute f.attribute
     pub to : SameValue e.to f.to
 
+  -- the same feature structure, place by place and arc by arc
   abbrev pub SameStructure : Structure → Structure → Type 0
   SameStructure S T = Each (Each SameArc) S T
 
@@ -86,6 +94,7 @@ abbrev mutual
   SameRow R (Optional rows xs) (Optional rows' ys) = SameRows' R rows rows' × SameRow R xs ys
   SameRow R _ _ = ⊥
 
+  -- choices of the same shape, whose single things belong together
   pub SameRows' : {X Y : Type 0} → (X → Y → Type 0) → Rows X → Rows Y → Type 0
   SameRows' R None' None' = Unit {0}
   SameRows' R (Or x xs) (Or y ys) = SameRow R x y × SameRows' R xs ys
@@ -93,24 +102,29 @@ abbrev mutual
 
 -- rules as they are written
 module _ (N N' : Numbering) where
+  -- the same symbol, of the same category
   pub record SameSymbol (x y : Symbol) : Type 0 where
     pub symbol : AreOne N N' x.symbol y.symbol
     pub category : AreOne N N' x.category y.category
 
+  -- the same path as written: from one symbol, along the same attributes
   pub record SameWrittenPath (p q : WrittenPath) : Type 0 where
     pub head : AreOne N N' p.head q.head
     pub path : Each (AreOne N N') p.path q.path
 
+  -- the same right side of a written equation: one atom, or one path
   abbrev pub SameWrittenTerm : WrittenTerm → WrittenTerm → Type 0
   SameWrittenTerm (AtomText c) (AtomText d) = AreOne N N' c d
   SameWrittenTerm (AtomText c) (PathText q) = ⊥
   SameWrittenTerm (PathText p) (AtomText d) = ⊥
   SameWrittenTerm (PathText p) (PathText q) = SameWrittenPath p q
 
+  -- the same equation as written
   pub record SameWrittenEquation (e f : WrittenEquation) : Type 0 where
     pub left : SameWrittenPath e.left f.left
     pub right : SameWrittenTerm e.right f.right
 
+  -- the same rule as written, apart from its line and its name
   pub record SameWrittenRule (r s : WrittenRule) : Type 0 where
     pub mother : SameSymbol r.mother s.mother
     pub right : SameRow SameSymbol r.right s.right
@@ -125,11 +139,12 @@ pub record SameGrounds (s s' : Grounds) : Type 0 where
 pub record RepliesAgree (judge : Rules → ℕ → Judgement) (s s' : Grounds) : Type 0 where
   pub sentence : (st : State) (ws : List (List ℕ)) (x : List ℕ) → IsSentenceReply judge s st ws x → IsSentenceReply judge s' st ws x
   pub one : (st : State) (ws : List (List ℕ)) (x y : List ℕ) → IsSentenceReply judge s st ws x → IsSentenceReply judge s' st ws y → x ≡ y
-  pub line : (st : State) (bytes : List ℕ) (x : List ℕ) (st' : State) → IsLineReply judge first_pass.lines s st bytes x st' → IsLineReply judge first_pass.lines s' st bytes x st'
-  pub session : (st : State) (lines : List (List ℕ)) (x : List ℕ) (quit : Bool) → Replied judge first_pass.lines s st lines x quit → Replied judge first_pass.lines s' st lines x quit
-  pub one_line : (st : State) (bytes : List ℕ) (x y : List ℕ) (a b : State) → IsLineReply judge first_pass.lines s st bytes x a → IsLineReply judge first_pass.lines s' st bytes y b → (x ≡ y) × (a ≡ b)
-  pub one_session : (st : State) (lines : List (List ℕ)) (x y : List ℕ) (quit quit' : Bool) → Replied judge first_pass.lines s st lines x quit → Replied judge first_pass.lines s' st lines y quit' → (x ≡ y) × (quit ≡ quit')
+  pub line : (st : State) (bytes : List ℕ) (x : List ℕ) (st' : State) → IsLineReply judge built.lines s st bytes x st' → IsLineReply judge built.lines s' st bytes x st'
+  pub session : (st : State) (lines : List (List ℕ)) (x : List ℕ) (quit : Bool) → Replied judge built.lines s st lines x quit → Replied judge built.lines s' st lines x quit
+  pub one_line : (st : State) (bytes : List ℕ) (x y : List ℕ) (a b : State) → IsLineReply judge built.lines s st bytes x a → IsLineReply judge built.lines s' st bytes y b → (x ≡ y) × (a ≡ b)
+  pub one_session : (st : State) (lines : List (List ℕ)) (x y : List ℕ) (quit quit' : Bool) → Replied judge built.lines s st lines x quit → Replied judge built.lines s' st lines y quit' → (x ≡ y) × (quit ≡ quit')
 
+-- replies do not depend on how symbols are numbered, by the plain chart and by the chart of solutions
 pub record RepliesIgnoreNumbers : Type 0 where
   pub plain : (s s' : Grounds) → SameGrounds s s' → RepliesAgree (λ g cat. plain g) s s'
   pub solved : (s s' : Grounds) → SameGrounds s s' → RepliesAgree solved s s'
@@ -137,7 +152,7 @@ pub record RepliesIgnoreNumbers : Type 0 where
 -- Nor does what a run writes, and how it ends. There is no premise: both numberings are any.
 abbrev pub RunsIgnoreNumbers : Type 0
 RunsIgnoreNumbers = (N N' : Numbering) (words : List (List ℕ)) (files : List ℕ → Option (List ℕ)) (input text : List ℕ) (ending : Ending)
-    → IsOut first_pass N words files input text ending → IsOut first_pass N' words files input text ending
+    → IsOut built N words files input text ending → IsOut built N' words files input text ending
 
 -- the variants of one rule, read under two numberings, are one for one the same
 abbrev pub VariantsIgnoreNumbers : Type 0

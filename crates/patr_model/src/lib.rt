@@ -1,7 +1,9 @@
 //! The definitions of a unification grammar, and laws about them.
 #![tactic(auto)]
 
+mod field;
 mod front;
+mod notation;
 
 ghost use Rattle.patr_model.specs.Samples.{SamplesOfMaps};
 ghost use Rattle.patr_model.specs.Laws.{SubsumptionIsOrder, UnifiersAreSame, LeastValuesExtend, UnifierIsLeastValue, PredictionDropsNone, SameAsUnifier, ClosedMarksAreSettled, ChartIsLicensed, NoMoreThanAll, OneReply, PlainIsSolvable, CategoriesAreOneAll, PlainChartIsSolved, CanonicalTexts, TextsAreRead, ReadingIsBack, LeastTextsAreOneAll, WalksAreWhole, Printing, WalksByStack, MapsByPairsAll, BuildsByStack, SortedIsInOrder, ReadsByItemsAll, TablesGive, TextsAreLocal};
@@ -12,9 +14,13 @@ ghost use Rattle.patr_model.specs.Variants.{VariantSteps};
 ghost use Rattle.patr_model.specs.Chains.{ChainSteps};
 ghost use Rattle.patr_model.specs.Longer.{LongerKeeps};
 ghost use Rattle.patr_model.specs.Openings.{OpeningsAreOne, RunsAreOne, SentenceRepliesBegin, TablesAreNumbered};
+ghost use Rattle.patr_model.specs.Agreeing.{ReadingIgnoresNumbers};
+ghost use Rattle.patr_model.specs.Spelling.{ClausesEnd, PathsAreSpelled, EquationsAreSpelled, RulesAreSpelled, GrammarsAreSpelled, EntriesAreSpelled};
 ghost use Rattle.patr_model.specs.Renaming.{RepliesIgnoreNumbers, RunsIgnoreNumbers, VariantsIgnoreNumbers, EachNumberingServes};
 
+pub use field::{LineKind, Marker};
 pub use front::{Front, Kind};
+pub use notation::{Key, What};
 
 /// Subsumption is an order.
 pub fn subsumption_is_order()
@@ -224,4 +230,39 @@ pub fn replies_begin()
 /// Each table of different texts has a numbering that agrees with it.
 pub fn tables_are_numbered()
     ensures { TablesAreNumbered }
+{}
+
+/// Tokens stand for one grammar, by their texts or by the numbers of these.
+pub fn reading_ignores_numbers()
+    ensures { ReadingIgnoresNumbers }
+{}
+
+/// A list of clauses that is read leaves no tokens.
+pub fn clauses_end()
+    ensures { ClausesEnd }
+{}
+
+/// A path is read exactly as it is spelled.
+pub fn paths_are_spelled()
+    ensures { PathsAreSpelled }
+{}
+
+/// An equation is read exactly as it is spelled.
+pub fn equations_are_spelled()
+    ensures { EquationsAreSpelled }
+{}
+
+/// Rules of symbols alone are read exactly as they are spelled.
+pub fn rules_are_spelled()
+    ensures { RulesAreSpelled }
+{}
+
+/// Bytes stand for a grammar of symbols alone exactly where their tokens spell it.
+pub fn grammars_are_spelled()
+    ensures { GrammarsAreSpelled }
+{}
+
+/// Lines of words and their categories are read as these entries.
+pub fn entries_are_spelled()
+    ensures { EntriesAreSpelled }
 {}

@@ -1,5 +1,5 @@
 use Rattle.patr_model.specs.Plain.{plain}
-use Rattle.patr_model.specs.FirstPass.{sentences_alone}
+use Rattle.patr_model.specs.Built.{sentences_alone}
 use Rattle.patr_model.proofs.replies_begin.Goals as goal
 use Rattle.patr_model.proofs.Canonical.{least_texts}
 use Rattle.patr_model.proofs.Lines.{replies_begin}
