@@ -1,0 +1,147 @@
+//! Stamped marks: a mark stands only in the generation that set it.
+ghost use Rattle.std.specs.Prelude.{◌≡◌, ◌<◌, ◌≤◌, ◌-◌, ◌++◌, [], All, IfOk, length, set};
+ghost use Rattle.patr_scratch.specs.Marks.{mark_at, no_marks, blank};
+ghost use Rattle.patr_scratch.specs.Contents.{slot};
+
+use crate::{Copied, Memory, Side, Target, Visit};
+use std::alloc::Global;
+use std::marker::Model;
+use std::mem::size_of;
+
+/// The first and the last cell of a list of added arcs.
+#[derive(Clone, Copy)]
+pub(crate) struct Ends {
+    pub(crate) first: u32,
+    pub(crate) last: u32,
+}
+
+/// What was set at a place.
+#[derive(Clone, Copy)]
+pub(crate) struct Mark {
+    pub(crate) forward: Option<Target>,
+    pub(crate) copied: Option<Copied>,
+    pub(crate) visit: Visit,
+    pub(crate) added: Option<Ends>,
+}
+
+impl Mark {
+    /// The mark of a place where nothing was set.
+    pub(crate) const BLANK: Mark = Mark {
+        forward: None,
+        copied: None,
+        visit: Visit::Unseen,
+        added: None,
+    };
+}
+
+/// A mark, and the generation that set it: generation 0 set none.
+#[derive(Clone, Copy)]
+struct Cell {
+    stamp: u32,
+    mark: Mark,
+}
+
+// A place takes 56 bytes.
+const _: () = prove!(size_of::<Cell>() == 56);
+
+impl Cell {
+    /// A cell that no generation has written.
+    const BLANK: Cell = Cell {
+        stamp: 0,
+        mark: Mark::BLANK,
+    };
+}
+
+/// Marks for the places of both sides, which take turns.
+#[derive(Drop)]
+pub(crate) struct Table {
+    cells: Vec<Cell>,
+    stamp: u32,
+}
+
+impl Model for Table {
+    ghost use Rattle.std.specs.Prelude.{ℕ, List};
+    ghost use Rattle.patr_scratch.specs.declared.table.Mark.{Mark};
+
+    ghost Value = { List Mark };
+
+    ghost use Rattle.patr_scratch.specs.Stamps.{marks_of, IsStamped};
+
+    ghost view = { λ table. marks_of table.stamp table.cells.items };
+
+    ghost invariant = { λ table. IsStamped table.stamp table.cells.items };
+}
+
+impl Table {
+    /// A table without room, in the generation `stamp`.
+    pub(crate) fn with_stamp(alloc: Global, stamp: u32) -> Table
+        requires { 1 ≤ stamp }
+        ensures { result ≡ [] }
+    {
+        Table {
+            cells: Vec::new(alloc),
+            stamp,
+        }
+    }
+
+    /// Goes to the next generation, in which no mark is set. After the last one their numbers begin anew, and then
+    /// every cell is cleared.
+    pub(crate) fn begin(&mut self)
+        ensures { self.new ≡ no_marks (length self.old) }
+    {
+        self.stamp = self.stamp.checked_add(1).unwrap_or(1);
+        let begins_anew = self.stamp == 1;
+        if begins_anew {
+            self.cells.fill(Cell::BLANK);
+        }
+    }
+
+    /// The index of a place.
+    pub(crate) fn slot(&self, side: Side, number: u64) -> usize
+        requires { slot side number < length self.now }
+        ensures { result ≡ slot side number }
+    {
+        // The table's length is a `usize`, and so is every index below it.
+        let _length = self.cells.len();
+        match side {
+            Side::Left => 2 * number as usize,
+            Side::Right => 2 * number as usize + 1,
+        }
+    }
+
+    /// What this generation set there.
+    pub(crate) fn get(&self, slot: usize) -> Mark
+        requires { slot < length self.now }
+        ensures { result ≡ mark_at self.now slot }
+    {
+        let cell = self.cells[slot];
+        if cell.stamp == self.stamp {
+            cell.mark
+        } else {
+            Mark::BLANK
+        }
+    }
+
+    /// Sets a mark in this generation.
+    pub(crate) fn set(&mut self, slot: usize, mark: Mark)
+        requires { slot < length self.old }
+        ensures { self.new ≡ set self.old slot mark }
+    {
+        self.cells[slot] = Cell {
+            stamp: self.stamp,
+            mark,
+        };
+    }
+
+    /// Takes room for at least so many places. The new ones have no mark. Fails for want of memory alone, and then the
+    /// table is as before.
+    pub(crate) fn reserve(&mut self, room: usize) -> Result<(), Memory>
+        ensures marks { self.new ≡ self.old ++ no_marks (length self.new - length self.old) }
+        ensures room { IfOk result (λ _. room ≤ length self.new) }
+    {
+        if self.cells.len() < room {
+            self.cells.resize(room, Cell::BLANK)?;
+        }
+        Ok(())
+    }
+}
