@@ -1,6 +1,9 @@
 pub mod Bytes
-pub mod Parses
-pub mod Rules
+pub mod Cells
+pub mod Forms
+pub mod Grown
+pub mod Loops
+pub mod Meanings
 pub mod Spelled
 pub mod Tables
 pub mod Texts

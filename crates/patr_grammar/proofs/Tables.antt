@@ -1,11 +1,10 @@
 -- Tables of texts that grow.
-use Rattle.std.proofs.Common.{◌≡◌, ℕ, zero, suc, Bool, true, false, cond, List, [], ◌∷◌, ◌++◌, map, slice_get, Some, refl, sym, ap, ◌∙◌, subst, append_assoc, append-nil}
-use Rattle.patr_model.specs.FirstPass.{PlainRule}
+use Rattle.std.proofs.Common.{◌≡◌, ℕ, zero, suc, arith, Bool, true, false, cond, List, [], ◌∷◌, ◌++◌, length, slice_get, Some, refl, sym, ap, ◌∙◌, subst, append_assoc, append-nil}
 use Rattle.patr_model.specs.Renaming.{Each}
+use Rattle.patr_model.specs.Tokens.{Token}
 use Rattle.patr_text.specs.Texts.{holds, with_text, Extends}
-use Rattle.patr_grammar.specs.declared.grammar.SymbolText.{SymbolText}
-use Rattle.patr_grammar.specs.declared.grammar.RuleText.{RuleText}
-use Rattle.patr_grammar.specs.Reading.{IsSymbol, IsRule, item_seen}
+use Rattle.patr_grammar.specs.declared.lexeme.Lexeme.{Lexeme}
+use Rattle.patr_grammar.specs.Views.{IsLexeme}
 
 extends_by : (b : Bool) (texts : List (List ℕ)) (t : List ℕ) → Extends texts (cond b texts (texts ++ t ∷ []))
 extends_by true texts t = ([], sym (append-nil texts))
@@ -13,9 +12,6 @@ extends_by false texts t = (t ∷ [], refl)
 
 pub extends_with : (texts : List (List ℕ)) (t : List ℕ) → Extends texts (with_text texts t)
 extends_with texts t = extends_by (holds texts t) texts t
-
-pub extends_self : (texts : List (List ℕ)) → Extends texts texts
-extends_self texts = ([], sym (append-nil texts))
 
 pub extends_trans : (a b c : List (List ℕ)) → Extends a b → Extends b c → Extends a c
 extends_trans a b c p q = (p.0 ++ q.0, q.1 ∙ ap (λ (u : List (List ℕ)). u ++ q.0) p.1 ∙ append_assoc a p.0 q.0)
@@ -33,7 +29,7 @@ each_push R [] (b ∷ ys) x y h r = absurd h
 each_push R (a ∷ xs) [] x y h r = absurd h
 each_push R (a ∷ xs) (b ∷ ys) x y h r = (h.0, each_push R xs ys x y h.1 r)
 
-each_still : {X Y : Type 0} (R S : X → Y → Type 0) → ((x : X) (y : Y) → R x y → S x y) → (xs : List X) (ys : List Y) → Each R xs ys → Each S xs ys
+pub each_still : {X Y : Type 0} (R S : X → Y → Type 0) → ((x : X) (y : Y) → R x y → S x y) → (xs : List X) (ys : List Y) → Each R xs ys → Each S xs ys
 each_still R S f [] [] h = tt
 each_still R S f [] (b ∷ ys) h = absurd h
 each_still R S f (a ∷ xs) [] h = absurd h
@@ -44,14 +40,14 @@ each_still R S f (a ∷ xs) (b ∷ ys) h = (f a b h.0, each_still R S f xs ys h.
 pub text_still : (old new : List (List ℕ)) → Extends old new → (i : ℕ) (t : List ℕ) → slice_get old i ≡ Some t → slice_get new i ≡ Some t
 text_still old new e i t is = subst (λ (u : List (List ℕ)). slice_get u i ≡ Some t) (sym e.1) (at_front old e.0 i t is)
 
-pub symbol_still : (old new : List (List ℕ)) → Extends old new → (t : List ℕ) (s : SymbolText) → IsSymbol old t s → IsSymbol new t s
-symbol_still old new e t s h = (text_still old new e s.symbol.0 t h.0, text_still old new e s.category.0 _ h.1)
+pub lexeme_still : (old new : List (List ℕ)) → Extends old new → (l : Lexeme) (t : Token) → IsLexeme old l t → IsLexeme new l t
+lexeme_still old new e l t h = record { kind = h.kind; key = h.key; word = text_still old new e l.word.0 _ h.word; category = text_still old new e l.category.0 _ h.category; place = h.place }
 
-pub symbols_still : (old new : List (List ℕ)) → Extends old new → (ts : List (List ℕ)) (ss : List SymbolText) → Each (IsSymbol old) ts ss → Each (IsSymbol new) ts ss
-symbols_still old new e = each_still (IsSymbol old) (IsSymbol new) (symbol_still old new e)
+pub lexemes_still : (old new : List (List ℕ)) → Extends old new → (ls : List Lexeme) (ts : List Token) → Each (IsLexeme old) ls ts → Each (IsLexeme new) ls ts
+lexemes_still old new e = each_still (IsLexeme old) (IsLexeme new) (lexeme_still old new e)
 
-rule_still : (old new : List (List ℕ)) → Extends old new → (g : RuleText) (r : PlainRule) → IsRule old g r → IsRule new g r
-rule_still old new e g r h = (h.0, symbol_still old new e r.mother g.mother h.1, symbols_still old new e r.right (map item_seen g.right.items) h.2)
-
-pub rules_still : (old new : List (List ℕ)) → Extends old new → (gs : List RuleText) (rs : List PlainRule) → Each (IsRule old) gs rs → Each (IsRule new) gs rs
-rules_still old new e = each_still (IsRule old) (IsRule new) (rule_still old new e)
+pub each_length : {X Y : Type 0} (R : X → Y → Type 0) (xs : List X) (ys : List Y) → Each R xs ys → length xs ≡ length ys
+each_length R [] [] h = refl
+each_length R [] (b ∷ ys) h = absurd h
+each_length R (a ∷ xs) [] h = absurd h
+each_length R (a ∷ xs) (b ∷ ys) h = omega (arith, each_length R xs ys h.1)

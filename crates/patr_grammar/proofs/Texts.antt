@@ -6,7 +6,7 @@ use Rattle.std.specs.Char.{to_ascii_lowercase, is_ascii_digit}
 use Rattle.std.specs.List.{list_all}
 use Rattle.std.proofs.lemmas.Bool.Decides.{nat_tests}
 use Rattle.patr_model.specs.Bytes.{same_text}
-use Rattle.patr_model.specs.FirstPass.{lower, is_keyword, all_digits, is_index, after_first, without_index}
+use Rattle.patr_model.specs.Lexemes.{lower, is_keyword, all_digits, is_index, after_first, without_index}
 
 pub lower_is : (b : ℕ) → to_ascii_lowercase b ≡ lower b
 lower_is b = grind (arith, nat_tests)

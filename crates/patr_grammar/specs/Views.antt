@@ -1,20 +1,31 @@
 -- What the reader passes on, as the definitions see it.
-use Rattle.std.specs.Prelude.{◌≡◌, ℕ, ◌+◌, ◌-◌, ◌<◌, Bool, false, List, [], ◌∷◌, map, slice_get, slice_range, Some, Result, Ok, Err}
+use Rattle.std.specs.Prelude.{◌≡◌, ℕ, ◌+◌, ◌-◌, ◌<◌, List, [], ◌∷◌, map, nat_eq, Result, Ok, Err}
+use Rattle.std.specs.declared.vec.Vec.{Vec}
+use Rattle.std.specs.declared.alloc.Global.{Global}
+use Rattle.patr_model.specs.Grammar.{Row}
 use Rattle.patr_model.specs.Tokens.{Place, Token}
-use Rattle.patr_model.specs.FirstPass.{Parse, Got, Stops, PlainRule, is_rule_word, is_symbol, is_arrow_token, start_text}
-use Rattle.patr_model.specs.Renaming.{Each}
-use Rattle.patr_text.specs.declared.fault.Fault.{Fault}
-use Rattle.patr_text.specs.declared.fault.Fault.TheVariants.{Memory, Refused}
+use Rattle.patr_model.specs.Lexemes.{Words, key_of, without_index}
+use Rattle.patr_model.specs.Parsing as parsing
+use Rattle.patr_model.specs.Parsing.{Parse, Got, Stops}
+use Rattle.patr_model.specs.Productions as production
+use Rattle.patr_model.specs.Productions.{Left, Clause, RuleClause, Outcome, Stands, Refused}
+use Rattle.patr_text.specs.declared.fault.Fault as fault
+use Rattle.patr_text.specs.declared.fault.Fault.TheVariants as faulty
+use Rattle.patr_text.specs.declared.symbols.Id.{Id}
 use Rattle.patr_text.specs.declared.token.Token as code
 use Rattle.patr_text.specs.Tokens.{IsCut}
 use Rattle.patr_grammar.specs.declared.place.Place as code_place
+use Rattle.patr_grammar.specs.declared.lexeme.Lexeme.{Lexeme}
+use Rattle.patr_grammar.specs.declared.grammar.Item.{Item}
+use Rattle.patr_grammar.specs.declared.grammar.RuleText.{RuleText}
 use Rattle.patr_grammar.specs.declared.grammar.Grammar.{Grammar}
+use Rattle.patr_grammar.specs.declared.grammar.GrammarCause.{GrammarCause}
+use Rattle.patr_grammar.specs.declared.grammar.GrammarCause.TheVariants as cause
 use Rattle.patr_grammar.specs.declared.reader.Refusal.{Refusal}
-use Rattle.patr_grammar.specs.declared.reader.Refusal.TheVariants.{LaterForm}
-use Rattle.patr_grammar.specs.declared.reader.Expected.{Expected}
-use Rattle.patr_grammar.specs.declared.reader.Expected.TheVariants.{RuleWord, Symbol, Arrow}
-use Rattle.patr_grammar.specs.declared.reader.RuleTokens.{RuleTokens}
-use Rattle.patr_grammar.specs.Reading.{IsRule}
+use Rattle.patr_grammar.specs.declared.reader.Refusal.TheVariants.{Expected, TooManySymbols, LaterForm}
+use Rattle.patr_grammar.specs.Reading.{IsText, right_seen, rule_seen}
+
+-- ---- tokens
 
 -- a place of the code
 abbrev pub place_seen : code_place.Place → Place
@@ -25,42 +36,88 @@ pub record IsSpelled (text : List ℕ) (t : code.Token) : Type 0 where
   pub some : t.start < t.end
   pub cut : IsCut text t
 
--- a token's text
-abbrev pub text_of : List ℕ → code.Token → List ℕ
-text_of text t = slice_range text t.start t.end
-
 -- how many bytes tokens have
 abbrev pub bytes_of : List code.Token → ℕ
 bytes_of [] = 0
 bytes_of (t ∷ ts) = (t.end - t.start) + bytes_of ts
 
--- a rule by the texts of its tokens
-abbrev pub plain_rule : List ℕ → RuleTokens → PlainRule
-plain_rule text r = record { line = r.line; mother = text_of text r.mother; right = map (text_of text) r.right.now }
+-- how lexemes are read: by the numbers of their texts
+abbrev pub by_id : Words Lexeme Id
+by_id = record {
+  kind = λ t. t.kind;
+  key = λ t. t.key;
+  word = λ t. t.word;
+  category = λ t. t.category;
+  place = λ t. record { line = t.line; column = t.column };
+  same = λ a b. nat_eq a.0 b.0;
+}
 
--- the token is what is expected
-abbrev pub passes : Expected → Token → Bool
-passes RuleWord = is_rule_word
-passes Symbol = is_symbol
-passes Arrow = is_arrow_token
+-- a lexeme is by the table what the token is by its text
+pub record IsLexeme (table : List (List ℕ)) (l : Lexeme) (t : Token) : Type 0 where
+  pub kind : l.kind ≡ t.kind
+  pub key : l.key ≡ key_of t.text
+  pub word : IsText table l.word t.text
+  pub category : IsText table l.category (without_index t.text)
+  pub place : by_id.place l ≡ t.place
 
--- the first token passes the test
-abbrev pub begins : (Token → Bool) → List Token → Bool
-begins test [] = false
-begins test (t ∷ ts) = test t
+-- the place of the first of these lexemes, or of the end
+abbrev pub first_place : Place → List Lexeme → Place
+first_place end [] = end
+first_place end (t ∷ ts) = by_id.place t
 
--- what a call returned, and the tokens that it left, are what the production gives, unless memory ran out
-abbrev pub Gives : {X Y : Type 0} → (X → Y) → Result X (Fault Refusal) → List Token → Parse Y → Type 0
-Gives view (Ok x) rest p = p ≡ Got (view x) rest
-Gives view (Err Memory) rest p = Unit {0}
-Gives view (Err (Refused LaterForm)) rest p = p ≡ Stops rest
+-- ---- what is read
 
--- the same, where what was returned is by the table what the production gives
-abbrev pub GivesBy : {X Y : Type 0} → (List (List ℕ) → X → Y → Type 0) → List (List ℕ) → Result X (Fault Refusal) → List Token → Parse Y → Type 0
-GivesBy {Y = Y} R table (Ok x) rest p = (y : Y) × (p ≡ Got y rest) × R table x y
-GivesBy R table (Err Memory) rest p = Unit {0}
-GivesBy R table (Err (Refused LaterForm)) rest p = p ≡ Stops rest
+-- a refusal of the code
+abbrev pub refusal_seen : Refusal → parsing.Refusal Id
+refusal_seen (Expected what) = parsing.Expected what
+refusal_seen TooManySymbols = parsing.TooManySymbols
+refusal_seen LaterForm = parsing.LaterForm
 
--- a grammar of the code has these rules, and their start symbol
-abbrev pub IsGrammar : List (List ℕ) → Grammar → List PlainRule → Type 0
-IsGrammar table g rs = Each (IsRule table) g.rules.items rs × (slice_get table g.start.0 ≡ Some (start_text rs))
+-- a right side of the code
+abbrev pub right_view : Vec Item Global → Row (production.SymbolText Id)
+right_view v = right_seen v.items
+
+-- a rule of the code, as a clause
+abbrev pub rule_view : RuleText → Clause Id
+rule_view r = RuleClause (rule_seen r)
+
+-- what a call returned, and what is left, is what the production gives, unless memory ran out; a refusal leaves these lexemes
+abbrev pub GivesAt : {S X Y : Type 0} → (X → Y) → Result X (fault.Fault Refusal) → S → List Lexeme → Parse Lexeme Id S Y → Type 0
+GivesAt view (Ok x) state rest p = p ≡ Got (view x) state
+GivesAt view (Err faulty.Memory) state rest p = Unit {0}
+GivesAt view (Err (faulty.Refused r)) state rest p = p ≡ Stops (refusal_seen r) rest
+
+-- the same, where lexemes alone are left
+abbrev pub Gives : {X Y : Type 0} → (X → Y) → Result X (fault.Fault Refusal) → List Lexeme → Parse Lexeme Id (List Lexeme) Y → Type 0
+Gives view result rest p = GivesAt view result rest rest p
+
+-- lexemes of a right side that may have so many symbols more
+abbrev pub left_over : ℕ → List Lexeme → Left Lexeme
+left_over symbols rest = record { symbols = symbols; tokens = rest }
+
+-- ---- what lexemes stand for
+
+-- a grammar of the code, which has rules alone
+abbrev pub grammar_seen : Id → Grammar → production.Grammar Id
+grammar_seen cat g = record { rules = map rule_seen g.rules.items; templates = []; lexical_rules = []; start = g.start; restrictor = (cat ∷ []) ∷ []; order = [] }
+
+-- the cause of a refusal at a place
+abbrev pub cause_at : Refusal → code_place.Place → GrammarCause
+cause_at (Expected what) p = cause.Expected p.line p.column what
+cause_at TooManySymbols p = cause.TooManySymbols p.line p.column
+cause_at LaterForm p = cause.LaterForm p.line p.column
+
+-- a lexeme, or the end, is refused at this place
+abbrev pub IsRefusedAt : parsing.Refusal Id → ℕ → ℕ → Place → Outcome Lexeme Id → Type 0
+IsRefusedAt r line column end o = (rest : List Lexeme) × (o ≡ Refused r rest) × (record { line = line; column = column } ≡ first_place end rest)
+
+-- the answer is what lexemes stand for that end at this place, unless memory ran out
+abbrev pub Answers : Id → Place → Result Grammar (fault.Fault GrammarCause) → Outcome Lexeme Id → Type 0
+Answers cat end (Ok g) o = o ≡ Stands (grammar_seen cat g)
+Answers cat end (Err faulty.Memory) o = Unit {0}
+Answers cat end (Err (faulty.Refused (cause.NotUtf8 at))) o = ⊥
+Answers cat end (Err (faulty.Refused (cause.BadToken line column))) o = ⊥
+Answers cat end (Err (faulty.Refused (cause.Expected line column what))) o = IsRefusedAt (parsing.Expected what) line column end o
+Answers cat end (Err (faulty.Refused (cause.TooManySymbols line column))) o = IsRefusedAt parsing.TooManySymbols line column end o
+Answers cat end (Err (faulty.Refused cause.NoRules)) o = o ≡ production.NoRules
+Answers cat end (Err (faulty.Refused (cause.LaterForm line column))) o = IsRefusedAt parsing.LaterForm line column end o

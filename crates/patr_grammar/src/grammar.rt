@@ -1,5 +1,8 @@
 //! What the bytes of a grammar stand for.
+ghost use Rattle.std.specs.Prelude.{◌≡◌};
+ghost use Rattle.patr_model.specs.GrammarText.{what_text};
 
+use patr_model::What;
 use patr_text::Id;
 use thiserror::Error;
 
@@ -21,6 +24,8 @@ pub enum Item {
 pub struct RuleText {
     /// The line of its first word, from 1.
     pub line: u32,
+    /// The texts of the tokens of its name, of which there may be none.
+    pub name: Vec<Id>,
     pub mother: SymbolText,
     pub right: Vec<Item>,
 }
@@ -42,7 +47,43 @@ pub enum GrammarCause {
     /// A control character stands outside a comment.
     #[error("{line}:{column}: bad character")]
     BadToken { line: u32, column: u32 },
-    /// What stands here, or that the text ends here, is a form that is not built yet.
+    /// Something else has to stand here.
+    #[error("{line}:{column}: expected {}", expected_text(.what))]
+    Expected { line: u32, column: u32, what: What },
+    /// A right side has more than 32 symbols; the first too many stands here.
+    #[error("{line}:{column}: too many symbols")]
+    TooManySymbols { line: u32, column: u32 },
+    /// There is no rule.
+    #[error("no rules")]
+    NoRules,
+    /// A form that is not built yet begins here.
     #[error("{line}:{column}: not built yet")]
     LaterForm { line: u32, column: u32 },
+}
+
+/// What is expected, as a fault tells it.
+pub fn expected_text(what: &What) -> &'static str
+    ensures { result.now ≡ what_text what.now }
+{
+    match what {
+        What::Clause => "a clause",
+        What::Symbol => "a symbol",
+        What::Arrow => "'->'",
+        What::CloseBrace => "'}'",
+        What::CloseParen => "')'",
+        What::Name => "a name",
+        What::Be => "'be'",
+        What::As => "'as'",
+        What::EquationOrName => "an equation or a name",
+        What::Equation => "an equation",
+        What::Attribute => "an attribute",
+        What::Greater => "'>'",
+        What::Equal => "'='",
+        What::PathOrAtom => "a path or an atom",
+        What::Parameter => "a parameter",
+        What::SymbolWord => "'symbol'",
+        What::OrderWord => "'order'",
+        What::Is => "'is'",
+        What::Path => "a path",
+    }
 }

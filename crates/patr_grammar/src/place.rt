@@ -1,11 +1,9 @@
 //! Places in a text.
-ghost use Rattle.std.specs.Prelude.{◌≡◌, ◌-◌, ◌^◌, ◌<◌, length, map};
+ghost use Rattle.std.specs.Prelude.{◌≡◌, ◌-◌, ◌^◌, ◌<◌, length};
 ghost use Rattle.patr_model.specs.Tokens.{after, start_place};
-ghost use Rattle.patr_model.specs.FirstPass.{stop};
-ghost use Rattle.patr_text.specs.Tokens.{seen};
-ghost use Rattle.patr_grammar.specs.Views.{place_seen};
+ghost use Rattle.patr_grammar.specs.Views.{place_seen, first_place};
 
-use patr_text::Token;
+use crate::lexeme::Lexeme;
 
 /// A line and a column, from 1; columns count bytes.
 #[derive(Clone, Copy, Debug, PartialEq, Eq)]
@@ -31,12 +29,12 @@ fn end_of(text: &str) -> Place
     place
 }
 
-/// The place of the first of the tokens that end a text, or of the text's end.
-pub fn place_of(text: &str, tokens: &[Token]) -> Place
+/// The place of the first of the lexemes that end a text, or of the text's end.
+pub fn place_of(text: &str, lexemes: &[Lexeme]) -> Place
     requires { length text.now < 2 ^ 32 - 1 }
-    ensures { place_seen result ≡ stop (after start_place text.now) (map (seen text.now) tokens.now) }
+    ensures { place_seen result ≡ first_place (after start_place text.now) lexemes.now }
 {
-    match tokens {
+    match lexemes {
         [] => end_of(text),
         [first, ..] => Place {
             line: first.line,

@@ -1,179 +1,287 @@
-//! Reading rules from tokens.
-ghost use Rattle.std.specs.Prelude.{◌≡◌, ◌+◌, ◌-◌, ◌^◌, ◌<◌, ◌≤◌, ◌∷◌, [], length, map, IfOk, OnOk};
-ghost use Rattle.std.specs.List.{All};
-ghost use Rattle.patr_model.specs.FirstPass.{one, symbols, rule, rules, Got};
-ghost use Rattle.patr_text.specs.Texts.{Extends};
-ghost use Rattle.patr_text.specs.Tokens.{seen};
-ghost use Rattle.patr_grammar.specs.Reading.{IsRule};
-ghost use Rattle.patr_grammar.specs.Views.{IsSpelled, text_of, bytes_of, plain_rule, passes, begins, Gives, GivesBy, IsGrammar};
+//! Reading a grammar from lexemes.
+ghost use Rattle.std.specs.Prelude.{◌≡◌, ◌<◌, ◌≤◌, [], length, map, IfOk, OnOk, false};
+ghost use Rattle.patr_model.specs.declared.front.Kind.TheVariants.{Arrow, OpenBrace};
+ghost use Rattle.patr_model.specs.declared.notation.What.TheVariants.{Symbol};
+ghost use Rattle.patr_model.specs.Grammar.{Done};
+ghost use Rattle.patr_model.specs.Lexemes.{is_kind, is_key, is_symbol, begins};
+ghost use Rattle.patr_model.specs.Parsing.{one, maybe};
+ghost use Rattle.patr_model.specs.Stages.{plain_rules};
+ghost use Rattle.patr_model.specs.Productions.{Single, Head, name_tokens, rule_name, opens_equations, begins_outer, item, right_side, ruleitems, rule, clause, clauses};
+ghost use Rattle.patr_text.specs.declared.symbols.Id.{Id};
+ghost use Rattle.patr_grammar.specs.Reading.{item_seen, rule_seen};
+ghost use Rattle.patr_grammar.specs.Views.{by_id, left_over, Gives, GivesAt, right_view, rule_view};
 
-use crate::grammar::{Grammar, RuleText};
-use crate::numbering::numbered_rule;
-use crate::words::{is_clause_word, is_keyword};
-use patr_model::Kind;
-use patr_text::{Fault, Symbols, Token};
+use crate::grammar::{Item, RuleText, SymbolText};
+use crate::lexeme::Lexeme;
+use patr_model::{Key, Kind, What};
+use patr_text::{Fault, Id};
 use std::alloc::Global;
 
-/// The most symbols behind an arrow.
+/// The most symbols of a right side.
 const MOST_SYMBOLS: usize = 32;
 
-/// Why a token, or the end, is refused.
+/// Why a lexeme, or the end, is refused.
 #[derive(Clone, Copy, Debug, PartialEq, Eq)]
 pub enum Refusal {
-    /// No form that is built has it there.
+    /// Something else has to stand there.
+    Expected(What),
+    /// It is one symbol too many of a right side.
+    TooManySymbols,
+    /// It begins a form that is not built yet.
     LaterForm,
 }
 
-/// What may be expected of a token.
-#[derive(Clone, Copy)]
-enum Expected {
-    RuleWord,
-    Symbol,
-    Arrow,
-}
-
-/// The tokens of a rule: the line of its first word, its mother and its right side.
-#[derive(Clone, Copy)]
-pub struct RuleTokens<'a> {
-    pub line: u32,
-    pub mother: Token,
-    pub right: &'a [Token],
-}
-
-/// Reads from the front of tokens. A refusal leaves what is refused at the front.
+/// Reads from the front of lexemes. A refusal leaves what is refused at the front.
 #[derive(Drop)]
 pub struct Reader<'a> {
     pub alloc: Global,
-    /// The text in which the tokens stand.
-    pub text: &'a str,
-    /// The tokens that are not read yet.
-    pub rest: &'a [Token],
+    /// The lexemes that are not read yet.
+    pub rest: &'a [Lexeme],
+    /// How many symbols the right side may still have.
+    pub left: usize,
 }
 
-impl<'a> Reader<'a> {
-    /// The token is what is expected.
-    fn is(&self, expected: Expected, token: &Token) -> bool
-        requires { IsSpelled self.now.text.now token.now }
-        ensures { result ≡ passes expected (seen self.now.text.now token.now) }
+impl Reader<'_> {
+    /// The lexemes begin with one of this kind.
+    fn begins(&self, kind: Kind) -> bool
+        ensures { result ≡ begins (is_kind by_id kind) self.now.rest.now }
     {
-        let text = &self.text[token.start..token.end];
-        match expected {
-            Expected::RuleWord => token.kind == Kind::Word && is_keyword(text, "rule"),
-            Expected::Symbol => token.kind == Kind::Word && !is_clause_word(text),
-            Expected::Arrow => token.kind == Kind::Arrow,
+        match self.rest {
+            [] => false,
+            [first, ..] => first.is_kind(kind),
         }
     }
 
-    /// The first token, which has to be what is expected.
-    fn one(&mut self, expected: Expected) -> Result<Token, Fault<Refusal>>
-        requires spelled { All (IsSpelled self.old.text.now) self.old.rest.now }
-        ensures text { self.new.text ≡ self.old.text }
-        ensures spelled { All (IsSpelled self.old.text.now) self.new.rest.now }
-        ensures gives { Gives (seen self.old.text.now) result (map (seen self.old.text.now) self.new.rest.now) (one (passes expected) (map (seen self.old.text.now) self.old.rest.now)) }
-        ensures found { IfOk result (λ t. IsSpelled self.old.text.now t) }
-        ensures bytes { IfOk result (λ t. bytes_of (t ∷ self.new.rest.now) ≡ bytes_of self.old.rest.now) }
+    /// The lexemes begin with this word of the notation.
+    fn begins_key(&self, key: Key) -> bool
+        ensures { result ≡ begins (is_key by_id key) self.now.rest.now }
+    {
+        match self.rest {
+            [] => false,
+            [first, ..] => first.is_key(key),
+        }
+    }
+
+    /// One lexeme of this kind.
+    fn one(&mut self, kind: Kind, what: What) -> Result<Lexeme, Fault<Refusal>>
+        ensures gives { Gives (λ t. t) result self.new.rest.now (one (is_kind by_id kind) what self.old.rest.now) }
         ensures shorter { OnOk result (length self.new.rest.now < length self.old.rest.now) }
     {
         match self.rest {
-            [] => Err(Fault::Refused(Refusal::LaterForm)),
-            [first, rest @ ..] => {
-                if !self.is(expected, first) {
-                    return Err(Fault::Refused(Refusal::LaterForm));
-                }
+            [first, rest @ ..] if first.is_kind(kind) => {
                 self.rest = rest;
                 Ok(*first)
+            }
+            _ => Err(Fault::Refused(Refusal::Expected(what))),
+        }
+    }
+
+    /// One word of the notation.
+    fn key(&mut self, key: Key, what: What) -> Result<Lexeme, Fault<Refusal>>
+        ensures gives { Gives (λ t. t) result self.new.rest.now (one (is_key by_id key) what self.old.rest.now) }
+        ensures shorter { OnOk result (length self.new.rest.now < length self.old.rest.now) }
+    {
+        match self.rest {
+            [first, rest @ ..] if first.is_key(key) => {
+                self.rest = rest;
+                Ok(*first)
+            }
+            _ => Err(Fault::Refused(Refusal::Expected(what))),
+        }
+    }
+
+    /// One symbol.
+    fn symbol(&mut self) -> Result<Lexeme, Fault<Refusal>>
+        ensures gives { Gives (λ t. t) result self.new.rest.now (one (is_symbol by_id) Symbol self.old.rest.now) }
+        ensures shorter { OnOk result (length self.new.rest.now < length self.old.rest.now) }
+    {
+        match self.rest {
+            [first, rest @ ..] if first.is_symbol() => {
+                self.rest = rest;
+                Ok(*first)
+            }
+            _ => Err(Fault::Refused(Refusal::Expected(What::Symbol))),
+        }
+    }
+
+    /// Passes one lexeme of this kind, where there is one.
+    fn pass(&mut self, kind: Kind)
+        ensures rest { self.new.rest.now ≡ maybe (is_kind by_id kind) self.old.rest.now }
+        ensures shorter { length self.new.rest.now ≤ length self.old.rest.now }
+    {
+        if let [first, rest @ ..] = self.rest {
+            if first.is_kind(kind) {
+                self.rest = rest;
             }
         }
     }
 
-    /// The tokens begin with one that is expected.
-    fn begins(&self, expected: Expected) -> bool
-        requires { All (IsSpelled self.now.text.now) self.now.rest.now }
-        ensures { result ≡ begins (passes expected) (map (seen self.now.text.now) self.now.rest.now) }
+    /// The rest of a rule's name: the lexemes up to the closing brace, and that brace.
+    fn name_tokens(&mut self) -> Result<Vec<Id>, Fault<Refusal>>
+        ensures gives { Gives (λ v. v.items) result self.new.rest.now (name_tokens by_id self.old.rest.now) }
+        ensures shorter { length self.new.rest.now ≤ length self.old.rest.now }
+    {
+        let mut name = Vec::new(self.alloc);
+        'tokens: loop {
+            match self.rest {
+                [] => return Err(Fault::Refused(Refusal::Expected(What::CloseBrace))),
+                [first, rest @ ..] => {
+                    if first.is_kind(Kind::CloseBrace) {
+                        self.rest = rest;
+                        return Ok(name);
+                    }
+                    if first.is_kind(Kind::OpenBrace) {
+                        return Err(Fault::Refused(Refusal::Expected(What::CloseBrace)));
+                    }
+                    name.push(first.word)?;
+                    self.rest = rest;
+                }
+            }
+        }
+    }
+
+    /// The name of a rule, where there is one.
+    fn rule_name(&mut self) -> Result<Vec<Id>, Fault<Refusal>>
+        ensures gives { Gives (λ v. v.items) result self.new.rest.now (rule_name by_id self.old.rest.now) }
+        ensures shorter { length self.new.rest.now ≤ length self.old.rest.now }
+    {
+        if !self.begins(Kind::OpenBrace) {
+            return Ok(Vec::new(self.alloc));
+        }
+        self.pass(Kind::OpenBrace);
+        self.name_tokens()
+    }
+
+    /// The first lexeme that is no opening brace is a `<`.
+    fn opens_equations(&self) -> bool
+        ensures { result ≡ opens_equations by_id self.now.rest.now }
+    {
+        for lexeme in self.rest {
+            if !lexeme.is_kind(Kind::OpenBrace) {
+                return lexeme.is_kind(Kind::Less);
+            }
+        }
+        false
+    }
+
+    /// An item of a right side may begin here.
+    fn begins_item(&self) -> bool
+        ensures { result ≡ begins_outer by_id self.now.rest.now }
     {
         match self.rest {
             [] => false,
-            [first, ..] => self.is(expected, first),
+            [first, ..] => {
+                first.is_symbol()
+                    || first.is_kind(Kind::OpenParen)
+                    || first.is_kind(Kind::OpenBrace) && !self.opens_equations()
+            }
         }
     }
 
-    /// The symbols that follow, at most so many.
-    fn symbols(&mut self, most: usize) -> &'a [Token]
-        requires spelled { All (IsSpelled self.old.text.now) self.old.rest.now }
-        ensures text { self.new.text ≡ self.old.text }
-        ensures spelled { All (IsSpelled self.old.text.now) self.new.rest.now }
-        ensures gives { symbols most (map (seen self.old.text.now) self.old.rest.now) ≡ Got (map (text_of self.old.text.now) result.now) (map (seen self.old.text.now) self.new.rest.now) }
-        ensures found { All (IsSpelled self.old.text.now) result.now }
-        ensures bytes { bytes_of result.now + bytes_of self.new.rest.now ≡ bytes_of self.old.rest.now }
+    /// An item of a right side.
+    fn item(&mut self) -> Result<Item, Fault<Refusal>>
+        ensures gives { GivesAt (λ i. Single (item_seen i)) result (left_over self.new.left self.new.rest.now) self.new.rest.now (item by_id false 16 (left_over self.old.left self.old.rest.now)) }
+        ensures shorter { OnOk result (length self.new.rest.now < length self.old.rest.now) }
+        ensures no_longer { length self.new.rest.now ≤ length self.old.rest.now }
+    {
+        if self.begins(Kind::OpenParen) || self.begins(Kind::OpenBrace) {
+            return Err(Fault::Refused(Refusal::LaterForm));
+        }
+        match self.rest {
+            [] => Err(Fault::Refused(Refusal::Expected(What::Symbol))),
+            [first, rest @ ..] => {
+                if !first.is_symbol() {
+                    return Err(Fault::Refused(Refusal::Expected(What::Symbol)));
+                }
+                if self.left == 0 {
+                    return Err(Fault::Refused(Refusal::TooManySymbols));
+                }
+                self.rest = rest;
+                self.left -= 1;
+                Ok(Item::Symbol(SymbolText {
+                    symbol: first.word,
+                    category: first.category,
+                }))
+            }
+        }
+    }
+
+    /// The right side of a rule.
+    fn right_side(&mut self) -> Result<Vec<Item>, Fault<Refusal>>
+        ensures gives { Gives right_view result self.new.rest.now (right_side by_id plain_rules self.old.rest.now) }
         ensures shorter { length self.new.rest.now ≤ length self.old.rest.now }
     {
-        let tokens = self.rest;
-        let mut len = 0;
-        while len < most && self.begins(Expected::Symbol) {
-            len += 1;
-            self.rest = &tokens[len..];
+        let mut right = Vec::new(self.alloc);
+        self.left = MOST_SYMBOLS;
+        while self.begins_item() {
+            let item = self.item()?;
+            right.push(item)?;
         }
-        &tokens[..len]
+        Ok(right)
     }
 
-    /// The tokens of a rule.
-    #[tactic(auto, unfolding(patr_model::specs::FirstPass::rule))]
-    fn rule_tokens(&mut self) -> Result<RuleTokens<'a>, Fault<Refusal>>
-        requires spelled { All (IsSpelled self.old.text.now) self.old.rest.now }
-        ensures text { self.new.text ≡ self.old.text }
-        ensures spelled { All (IsSpelled self.old.text.now) self.new.rest.now }
-        ensures gives { Gives (plain_rule self.old.text.now) result (map (seen self.old.text.now) self.new.rest.now) (rule (map (seen self.old.text.now) self.old.rest.now)) }
-        ensures mother { IfOk result (λ r. IsSpelled self.old.text.now r.mother) }
-        ensures right { IfOk result (λ r. All (IsSpelled self.old.text.now) r.right.now) }
-        ensures bytes { IfOk result (λ r. bytes_of (r.mother ∷ r.right.now) + bytes_of self.new.rest.now ≤ bytes_of self.old.rest.now) }
+    /// Refuses equations and their choices, which are not built yet.
+    fn no_equations(&self) -> Result<(), Fault<Refusal>>
+        ensures { (h : Head Id) → Gives (λ _. Done) result self.now.rest.now (ruleitems by_id plain_rules h self.now.rest.now) }
+    {
+        if self.begins(Kind::Less) || self.begins(Kind::OpenBrace) {
+            return Err(Fault::Refused(Refusal::LaterForm));
+        }
+        Ok(())
+    }
+
+    /// A rule.
+    #[tactic(auto, unfolding(patr_model::specs::Productions::rule))]
+    fn rule(&mut self) -> Result<RuleText, Fault<Refusal>>
+        ensures gives { Gives rule_seen result self.new.rest.now (rule by_id plain_rules self.old.rest.now) }
         ensures shorter { OnOk result (length self.new.rest.now < length self.old.rest.now) }
     {
-        let word = self.one(Expected::RuleWord)?;
-        let mother = self.one(Expected::Symbol)?;
-        self.one(Expected::Arrow)?;
-        let right = self.symbols(MOST_SYMBOLS);
-        Ok(RuleTokens {
+        let word = self.key(Key::Rule, What::Clause)?;
+        let name = self.rule_name()?;
+        let mother = self.symbol()?;
+        self.one(Kind::Arrow, What::Arrow)?;
+        let right = self.right_side()?;
+        self.pass(Kind::Colon);
+        self.no_equations()?;
+        self.pass(Kind::Dot);
+        Ok(RuleText {
             line: word.line,
-            mother,
+            name,
+            mother: SymbolText {
+                symbol: mother.word,
+                category: mother.category,
+            },
             right,
         })
     }
 
-    /// A rule with the numbers of its symbols.
-    fn rule(&mut self, symbols: &mut Symbols) -> Result<RuleText, Fault<Refusal>>
-        requires spelled { All (IsSpelled self.old.text.now) self.old.rest.now }
-        requires room { length symbols.old + bytes_of self.old.rest.now < 2 ^ 32 - 1 }
-        ensures text { self.new.text ≡ self.old.text }
-        ensures spelled { All (IsSpelled self.old.text.now) self.new.rest.now }
-        ensures gives { GivesBy IsRule symbols.new result (map (seen self.old.text.now) self.new.rest.now) (rule (map (seen self.old.text.now) self.old.rest.now)) }
-        ensures extends { Extends symbols.old symbols.new }
-        ensures growth { length symbols.new ≤ length symbols.old + bytes_of self.old.rest.now }
-        ensures bytes { OnOk result (length symbols.new + bytes_of self.new.rest.now ≤ length symbols.old + bytes_of self.old.rest.now) }
+    /// A clause, of which rules alone are built.
+    fn clause(&mut self) -> Result<RuleText, Fault<Refusal>>
+        ensures gives { Gives rule_view result self.new.rest.now (clause by_id plain_rules [] self.old.rest.now) }
         ensures shorter { OnOk result (length self.new.rest.now < length self.old.rest.now) }
     {
-        let rule = self.rule_tokens()?;
-        let rule = numbered_rule(self.alloc, symbols, self.text, &rule)?;
-        Ok(rule)
+        if self.begins_key(Key::Let) {
+            return Err(Fault::Refused(Refusal::LaterForm));
+        }
+        if self.begins_key(Key::Define) {
+            return Err(Fault::Refused(Refusal::LaterForm));
+        }
+        if self.begins_key(Key::Parameter) {
+            return Err(Fault::Refused(Refusal::LaterForm));
+        }
+        self.rule()
     }
 
-    /// One rule or more, up to the end.
-    pub fn grammar(&mut self, symbols: &mut Symbols) -> Result<Grammar, Fault<Refusal>>
-        requires spelled { All (IsSpelled self.old.text.now) self.old.rest.now }
-        requires room { length symbols.old + bytes_of self.old.rest.now < 2 ^ 32 - 1 }
-        ensures gives { GivesBy IsGrammar symbols.new result (map (seen self.old.text.now) self.new.rest.now) (rules (map (seen self.old.text.now) self.old.rest.now)) }
-        ensures ends { OnOk result (self.new.rest.now ≡ []) }
-        ensures few { IfOk result (λ g. length g.rules.items ≤ length self.old.rest.now) }
-        ensures extends { Extends symbols.old symbols.new }
-        ensures growth { length symbols.new ≤ length symbols.old + bytes_of self.old.rest.now }
+    /// Clauses up to the end.
+    pub fn clauses(&mut self) -> Result<Vec<RuleText>, Fault<Refusal>>
+        ensures gives { Gives (λ v. map rule_view v.items) result self.new.rest.now (clauses by_id plain_rules (length self.old.rest.now) [] self.old.rest.now) }
+        ensures few { IfOk result (λ v. length v.items ≤ length self.old.rest.now) }
     {
-        let first = self.rule(symbols)?;
-        let start = first.mother.category;
         let mut rules = Vec::new(self.alloc);
-        rules.push(first)?;
         while !self.rest.is_empty() {
-            let rule = self.rule(symbols)?;
+            let rule = self.clause()?;
             rules.push(rule)?;
         }
-        Ok(Grammar { rules, start })
+        Ok(rules)
     }
 }

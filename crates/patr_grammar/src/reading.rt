@@ -1,13 +1,69 @@
 //! Reading a grammar.
-ghost use Rattle.std.specs.Prelude.{◌+◌, ◌-◌, ◌^◌, ◌<◌, ◌≤◌, length, IfOk, IfErr};
+ghost use Rattle.std.specs.Prelude.{◌≡◌, ◌+◌, ◌-◌, ◌^◌, ◌<◌, ◌≤◌, [], length, slice_index_or, IfOk, IfErr, IfSome, IfNone};
+ghost use Rattle.patr_model.specs.Tokens.{after, start_place};
+ghost use Rattle.patr_model.specs.Stages.{plain_rules};
+ghost use Rattle.patr_model.specs.Productions.{grammar};
+ghost use Rattle.patr_text.specs.declared.symbols.Id.{Id};
 ghost use Rattle.patr_text.specs.Texts.{Extends};
+ghost use Rattle.patr_grammar.specs.declared.grammar.RuleText.{RuleText};
 ghost use Rattle.patr_grammar.specs.Reading.{StandsFor, IsRefusedFor};
+ghost use Rattle.patr_grammar.specs.Views.{by_id, cause_at, Answers};
 
-use crate::grammar::{Grammar, GrammarCause};
-use crate::place::place_of;
+use crate::grammar::{Grammar, GrammarCause, RuleText};
+use crate::lexeme::Lexeme;
+use crate::numbering::lexemes;
+use crate::place::{Place, place_of};
 use crate::reader::{Reader, Refusal};
 use patr_text::{BadToken, Fault, Symbols, tokens};
 use std::alloc::Global;
+
+/// The cause of a refusal at a place.
+fn cause_at(refusal: Refusal, place: Place) -> GrammarCause
+    ensures { result ≡ cause_at refusal place }
+{
+    let Place { line, column } = place;
+    match refusal {
+        Refusal::Expected(what) => GrammarCause::Expected { line, column, what },
+        Refusal::TooManySymbols => GrammarCause::TooManySymbols { line, column },
+        Refusal::LaterForm => GrammarCause::LaterForm { line, column },
+    }
+}
+
+/// The grammar of these rules, whose start symbol is the first one's category. `None` exactly where
+/// there is no rule.
+fn grammar_of(rules: Vec<RuleText>) -> Option<Grammar>
+    ensures some { IfSome result (λ g. 0 < length rules.items) }
+    ensures rules { IfSome result (λ g. g.rules.items ≡ rules.items) }
+    ensures start { IfSome result (λ g. (default : RuleText) → g.start ≡ (slice_index_or rules.items 0 default).mother.category) }
+    ensures none { IfNone result (rules.items ≡ []) }
+{
+    if rules.is_empty() {
+        return None;
+    }
+    let start = rules[0].mother.category;
+    Some(Grammar { rules, start })
+}
+
+/// What the lexemes of a text stand for.
+fn read(alloc: Global, text: &str, lexemes: &[Lexeme]) -> Result<Grammar, Fault<GrammarCause>>
+    requires { length text.now < 2 ^ 32 - 1 }
+    ensures answers { (cat : Id) → Answers cat (after start_place text.now) result (grammar by_id plain_rules cat lexemes.now) }
+    ensures few { IfOk result (λ g. length g.rules.items ≤ length lexemes.now) }
+{
+    let mut reader = Reader {
+        alloc,
+        rest: lexemes,
+        left: 0,
+    };
+    match reader.clauses() {
+        Ok(rules) => grammar_of(rules).ok_or(Fault::Refused(GrammarCause::NoRules)),
+        Err(Fault::Memory) => Err(Fault::Memory),
+        Err(Fault::Refused(refusal)) => {
+            let place = place_of(text, reader.rest);
+            Err(Fault::Refused(cause_at(refusal, place)))
+        }
+    }
+}
 
 /// What a text stands for.
 fn read_text(
@@ -29,22 +85,10 @@ fn read_text(
             return Err(Fault::Refused(GrammarCause::BadToken { line, column }));
         }
     };
-    let mut reader = Reader {
-        alloc,
-        text,
-        rest: &tokens,
-    };
-    match reader.grammar(symbols) {
-        Ok(grammar) => Ok(grammar),
-        Err(Fault::Memory) => Err(Fault::Memory),
-        Err(Fault::Refused(Refusal::LaterForm)) => {
-            let place = place_of(text, reader.rest);
-            Err(Fault::Refused(GrammarCause::LaterForm {
-                line: place.line,
-                column: place.column,
-            }))
-        }
-    }
+    let lexemes = lexemes(alloc, symbols, text, &tokens)?;
+    // The table has `cat`, and no text of it stands twice: `len` says so.
+    symbols.len();
+    read(alloc, text, &lexemes)
 }
 
 /// What the bytes of a grammar stand for, with the numbers that the table gives to its symbols.

@@ -5,7 +5,7 @@ use std::process::Abort;
 use std::test::Fail;
 
 /// Grammars, and what they are read as.
-const GRAMMARS: [(&[u8], &str); 16] = [
+const GRAMMARS: [(&[u8], &str); 36] = [
     (
         b"Rule S -> NP VP\nRule NP -> Det N\nRule VP -> V\n",
         "1 S:S -> NP:NP VP:VP|2 NP:NP -> Det:Det N:N|3 VP:VP -> V:V|start S",
@@ -16,14 +16,43 @@ const GRAMMARS: [(&[u8], &str); 16] = [
         "3 S_2:S -> _1:_1 a_:a_ b_2c:b_2c e_1_2:e_1|start S",
     ),
     (b"Rule S ->", "1 S:S ->|start S"),
+    (
+        b"Rule S -> A. rule A -> b.c :.",
+        "1 S:S -> A:A|1 A:A -> b.c:b.c|start S",
+    ),
+    (
+        b"Rule {first -> ( / x.1 :} S -> is\n:\n. ; end\nRule {} A_1 -> be",
+        "1 {first -> ( / x.1 :} S:S -> is:is|4 A_1:A -> be:be|start S",
+    ),
+    (
+        b"Rule\n{a}\nS -> A\nRule A ->",
+        "1 {a} S:S -> A:A|4 A:A ->|start S",
+    ),
+    (b"", "no rules"),
+    (b"\n; Rule S -> NP\n", "no rules"),
+    (b"S -> NP", "1:1: expected a clause"),
+    (b"Rule S NP", "1:8: expected '->'"),
+    (b"Rule S -> NP\nRule NP", "2:8: expected '->'"),
+    (b"Rule", "1:5: expected a symbol"),
+    (b"Rule rule -> A", "1:6: expected a symbol"),
+    (b"Rule ( -> A", "1:6: expected a symbol"),
+    (b"Rule S -> rule -> B", "1:16: expected a symbol"),
+    (b"Rule {x S -> A", "1:15: expected '}'"),
+    (b"Rule {a {b} S -> A", "1:9: expected '}'"),
+    (b"Rule S -> A )", "1:13: expected a clause"),
+    (b"Rule S -> A : (", "1:15: expected a clause"),
+    (b"Rule S -> A . {", "1:15: expected a clause"),
+    (b"Rule S -> A : B", "1:15: expected a clause"),
+    (b"Rule S -> ( A", "1:11: not built yet"),
+    (b"Rule S -> A {B / C}", "1:13: not built yet"),
+    (b"Rule S -> A {{<S f> = x}}", "1:13: not built yet"),
+    (b"Rule S -> A : {", "1:15: not built yet"),
     (b"Rule S -> NP VP <S f> = x", "1:17: not built yet"),
-    (b"", "1:1: not built yet"),
-    (b"\n; nothing\n", "3:1: not built yet"),
-    (b"Rule S -> NP\nRule NP", "2:8: not built yet"),
-    (b"Rule S -> let", "1:11: not built yet"),
-    (b"Rule rule -> A", "1:6: not built yet"),
+    (b"Let A be <x> = y", "1:1: not built yet"),
+    (b"Rule S -> A define", "1:13: not built yet"),
+    (b"Rule S -> A .\nParameter", "2:1: not built yet"),
     (b"\x01", "1:1: bad character"),
-    (b"Rule S\n -> \x7f", "2:5: bad character"),
+    (b"S\n -> \x7f", "2:5: bad character"),
     (b"\xff", "not UTF-8 at byte 0"),
     (b"Rule \xc3\xa9 -> \xc3", "not UTF-8 at byte 11"),
     (
@@ -32,7 +61,7 @@ const GRAMMARS: [(&[u8], &str); 16] = [
     ),
     (
         b"Rule A -> B B B B B B B B B B B B B B B B B B B B B B B B B B B B B B B B B",
-        "1:75: not built yet",
+        "1:75: too many symbols",
     ),
 ];
 
@@ -52,13 +81,27 @@ fn shown_symbol(alloc: Global, symbols: &Symbols, symbol: SymbolText) -> Result<
     Ok(format!(in alloc; "{text}:{category}")?)
 }
 
+/// A rule's name in braces, where it has one.
+fn shown_name(alloc: Global, symbols: &Symbols, name: &[Id]) -> Result<String, Fail> {
+    let mut shown = String::new(alloc);
+    for word in name {
+        shown.push_str(if shown.is_empty() { "{" } else { " " })?;
+        shown.push_str(text_of(symbols, *word))?;
+    }
+    if !shown.is_empty() {
+        shown.push_str("} ")?;
+    }
+    Ok(shown)
+}
+
 /// The rules of a grammar, each with its line, and the start symbol.
 fn shown_grammar(alloc: Global, symbols: &Symbols, grammar: &Grammar) -> Result<String, Fail> {
     let mut shown = String::new(alloc);
     for rule in &grammar.rules {
+        let name = shown_name(alloc, symbols, &rule.name)?;
         let mother = shown_symbol(alloc, symbols, rule.mother)?;
         let line = rule.line;
-        shown.push_str(&format!(in alloc; "{line} {mother} ->")?)?;
+        shown.push_str(&format!(in alloc; "{line} {name}{mother} ->")?)?;
         for item in &rule.right {
             match item {
                 Item::Symbol(symbol) => {

@@ -1,23 +1,52 @@
 //! Words of the notation.
 ghost use Rattle.std.specs.Prelude.{◌≡◌, map};
-ghost use Rattle.patr_model.specs.FirstPass.{lower, is_keyword, is_clause_word, all_digits, is_index, without_index};
+ghost use Rattle.patr_model.specs.Lexemes.{lower, is_keyword, key_of, all_digits, is_index, without_index};
+
+use patr_model::Key;
 
 /// The text is this word of the notation, which has no capital letter.
-pub fn is_keyword(text: &str, word: &str) -> bool
+fn is_keyword(text: &str, word: &str) -> bool
     requires { map lower word.now ≡ word.now }
     ensures { result ≡ is_keyword word.now text.now }
 {
     text.eq_ignore_ascii_case(word)
 }
 
-/// The text is a word that begins a clause.
-pub fn is_clause_word(text: &str) -> bool
-    ensures { result ≡ is_clause_word text.now }
+/// Which word of the notation a text is: a keyword, or `in` or `out` as they are written.
+pub fn key_of(text: &str) -> Key
+    ensures { result ≡ key_of text.now }
 {
-    is_keyword(text, "rule")
-        || is_keyword(text, "let")
-        || is_keyword(text, "define")
-        || is_keyword(text, "parameter")
+    if is_keyword(text, "rule") {
+        Key::Rule
+    } else if is_keyword(text, "let") {
+        Key::Let
+    } else if is_keyword(text, "define") {
+        Key::Define
+    } else if is_keyword(text, "parameter") {
+        Key::Parameter
+    } else if is_keyword(text, "be") {
+        Key::Be
+    } else if is_keyword(text, "as") {
+        Key::As
+    } else if is_keyword(text, "is") {
+        Key::Is
+    } else if is_keyword(text, "start") {
+        Key::Start
+    } else if is_keyword(text, "symbol") {
+        Key::Symbol
+    } else if is_keyword(text, "restrictor") {
+        Key::Restrictor
+    } else if is_keyword(text, "attribute") {
+        Key::Attribute
+    } else if is_keyword(text, "order") {
+        Key::Order
+    } else if text == "in" {
+        Key::In
+    } else if text == "out" {
+        Key::Out
+    } else {
+        Key::Plain
+    }
 }
 
 /// Each byte is a digit.

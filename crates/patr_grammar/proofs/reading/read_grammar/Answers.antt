@@ -1,6 +1,6 @@
 use Rattle.std.proofs.Common.{ℕ, List, sym, subst}
 use Rattle.std.specs.Str.{IsValidUpTo}
-use Rattle.patr_model.specs.FirstPass.{StopsUtf8}
+use Rattle.patr_model.specs.Faults.{StopsUtf8}
 use Rattle.patr_grammar.proofs.reading.read_grammar.Goals as goal
 
 stops : (bytes : List ℕ) (n : ℕ) → IsValidUpTo bytes n → StopsUtf8 bytes n

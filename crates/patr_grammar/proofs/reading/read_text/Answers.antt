@@ -1,37 +1,57 @@
-use Rattle.std.proofs.Common.{◌≡◌, ℕ, ◌≤◌, List, length, sym, ap, subst, arith}
+use Rattle.std.proofs.Common.{◌≡◌, ℕ, ◌≤◌, List, length, map, Ok, sym, ap, ◌∙◌, subst, arith}
 use Rattle.std.specs.List.{All}
+use Rattle.std.proofs.Math.Seq.{take-length}
+use Rattle.std.proofs.lemmas.List.{length-map}
+use Rattle.std.proofs.lemmas.Result.{IfOk-weaker}
 use Rattle.std.proofs.lemmas.Str.{IsCharBoundary-start}
+use Rattle.patr_model.specs.Renaming.{Each}
+use Rattle.patr_model.specs.Tokens.{scan, start_place, tokens_of}
 use Rattle.patr_text.specs.declared.token.Token.{Token}
-use Rattle.patr_text.specs.Tokens.{InOrder}
-use Rattle.patr_grammar.specs.Views.{IsSpelled, bytes_of}
+use Rattle.patr_text.specs.Tokens.{InOrder, seen}
+use Rattle.patr_grammar.specs.declared.lexeme.Lexeme.{Lexeme}
+use Rattle.patr_grammar.specs.Views.{IsSpelled, IsLexeme, bytes_of}
+use Rattle.patr_grammar.proofs.Meanings.{answered}
 use Rattle.patr_grammar.proofs.Spelled.{spelled_in_order, bytes_in_order, count_in_order}
+use Rattle.patr_grammar.proofs.Tables.{each_length}
 use Rattle.patr_grammar.proofs.reading.read_text.Goals as goal
 
 within : (text : List ℕ) (ts items : List Token) → ts ≡ items → InOrder 0 (length text) items → bytes_of ts ≤ length text
 within text ts items e order = omega (arith, ap bytes_of e, bytes_in_order items 0 (length text) (omega arith) order)
 
-fewer : (text : List ℕ) (ts items : List Token) → ts ≡ items → InOrder 0 (length text) items → length ts ≤ length text
-fewer text ts items e order = omega (arith, ap length e, count_in_order items 0 (length text) (omega arith) order)
-
 pub tokens-requires-clause-start : goal.tokens-requires-clause-start
 tokens-requires-clause-start c = IsCharBoundary-start c.args.text.now c.utf8.text
 
-pub grammar-requires-clause-spelled : goal.grammar-requires-clause-spelled
-grammar-requires-clause-spelled c =
+pub lexemes-requires-clause-spelled : goal.lexemes-requires-clause-spelled
+lexemes-requires-clause-spelled c =
     let K : List Token → Type 0 = λ ts. All (IsSpelled c.args.text.now) ts in
     subst K (sym c.deref.ensures.value) (spelled_in_order c.args.text.now c.in-Ok.tokens.items 0 (length c.args.text.now) c.in-Ok.ensures.cut c.in-Ok.ensures.order)
 
-pub grammar-requires-clause-room : goal.grammar-requires-clause-room
-grammar-requires-clause-room c = omega (arith, within c.args.text.now c.deref.result.now c.in-Ok.tokens.items c.deref.ensures.value c.in-Ok.ensures.order)
+pub lexemes-requires-clause-room : goal.lexemes-requires-clause-room
+lexemes-requires-clause-room c = omega (arith, within c.args.text.now c.deref.result.now c.in-Ok.tokens.items c.deref.ensures.value c.in-Ok.ensures.order)
 
-pub returns-in-Ok-grammar-clause-growth : goal.returns-in-Ok-grammar-clause-growth
-returns-in-Ok-grammar-clause-growth c = omega (arith, c.in-Ok-grammar.ensures.growth, within c.args.text.now c.deref.result.now c.in-Ok.tokens.items c.deref.ensures.value c.in-Ok.ensures.order)
-
-pub returns-in-Err-Memory-grammar-clause-growth : goal.returns-in-Err-Memory-grammar-clause-growth
-returns-in-Err-Memory-grammar-clause-growth c = omega (arith, c.in-Err-Memory-grammar.ensures.growth, within c.args.text.now c.deref.result.now c.in-Ok.tokens.items c.deref.ensures.value c.in-Ok.ensures.order)
+pub returns-in_err-lexemes-clause-growth : goal.returns-in_err-lexemes-clause-growth
+returns-in_err-lexemes-clause-growth c = omega (arith, c.lexemes.ensures.growth, within c.args.text.now c.deref.result.now c.in-Ok.tokens.items c.deref.ensures.value c.in-Ok.ensures.order)
 
 pub returns-clause-growth : goal.returns-clause-growth
-returns-clause-growth c = omega (arith, c.in-Err-Refused-LaterForm.ensures.growth, within c.args.text.now c.deref.result.now c.in-Ok.tokens.items c.deref.ensures.value c.in-Ok.ensures.order)
+returns-clause-growth c = omega (arith, c.lexemes.ensures.growth, within c.args.text.now c.deref.result.now c.in-Ok.tokens.items c.deref.ensures.value c.in-Ok.ensures.order)
 
-pub returns-in-Ok-grammar-clause-few : goal.returns-in-Ok-grammar-clause-few
-returns-in-Ok-grammar-clause-few c = omega (arith, c.in-Ok-grammar.ensures.few, fewer c.args.text.now c.deref.result.now c.in-Ok.tokens.items c.deref.ensures.value c.in-Ok.ensures.order)
+-- the lexemes are the tokens of the text
+each : (c : goal.After-drop-tokens-2) → Each (IsLexeme c.lexemes.new.symbols) c.deref-2.result.now (map (seen c.args.text.now) c.in-Ok.tokens.items)
+each c =
+    let K : List Lexeme → List Token → Type 0 = λ ls ts. Each (IsLexeme c.lexemes.new.symbols) ls (map (seen c.args.text.now) ts) in
+    subst (λ (ls : List Lexeme). K ls c.in-Ok.tokens.items) (sym c.deref-2.ensures.value) (subst (K c.in_ok-lexemes.lexemes.items) c.deref.ensures.value c.in_ok-lexemes.ensures.numbers)
+
+scanned : (c : goal.After-drop-tokens-2) → tokens_of c.args.text.now ≡ Ok (map (seen c.args.text.now) c.in-Ok.tokens.items)
+scanned c = ap (λ (bytes : List ℕ). scan 0 0 start_place bytes) (sym (take-length c.args.text.now)) ∙ c.in-Ok.ensures.read
+
+pub returns-clause-reads : goal.returns-clause-reads
+returns-clause-reads c = (answered c.lexemes.new.symbols c.args.text.now (map (seen c.args.text.now) c.in-Ok.tokens.items) c.utf8.text (scanned c) c.deref-2.result.now c.read.result c.len.ensures.one_to_one c.len.ensures.first (each c) c.read.ensures.answers).0
+
+pub returns-clause-refused : goal.returns-clause-refused
+returns-clause-refused c = (answered c.lexemes.new.symbols c.args.text.now (map (seen c.args.text.now) c.in-Ok.tokens.items) c.utf8.text (scanned c) c.deref-2.result.now c.read.result c.len.ensures.one_to_one c.len.ensures.first (each c) c.read.ensures.answers).1
+
+pub returns-clause-few : goal.returns-clause-few
+returns-clause-few c =
+    let ts = c.in-Ok.tokens.items in
+    let same = each_length (IsLexeme c.lexemes.new.symbols) c.deref-2.result.now (map (seen c.args.text.now) ts) (each c) in
+    IfOk-weaker c.read.result (λ g. length g.rules.items ≤ length c.deref-2.result.now) (λ g. length g.rules.items ≤ length c.args.text.now) (λ g h. omega (arith, h, same, length-map ts (seen c.args.text.now), count_in_order ts 0 (length c.args.text.now) (omega arith) c.in-Ok.ensures.order)) c.read.ensures.few

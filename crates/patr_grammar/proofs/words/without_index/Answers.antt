@@ -1,5 +1,5 @@
 use Rattle.std.proofs.Common.{sym, ◌∙◌}
-use Rattle.patr_model.specs.FirstPass.{without_index}
+use Rattle.patr_model.specs.Lexemes.{without_index}
 use Rattle.patr_grammar.proofs.Texts.{walk_goes_on}
 use Rattle.patr_grammar.proofs.words.without_index.Goals as goal
 

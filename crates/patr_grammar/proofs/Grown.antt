@@ -1,0 +1,77 @@
+-- A grammar that was read stays what was read while the table grows.
+use Rattle.std.proofs.Common.{ℕ, List, map, Option, None, Some}
+use Rattle.patr_model.specs.Grammar.{Row, Rows, Done, One, OneOf, Optional, None', Or}
+use Rattle.patr_model.specs.Renaming.{Both, SameRow, SameRows'}
+use Rattle.patr_model.specs.Agreeing.{SameSymbolText, SamePathText, SameTermText, SameEquationText, SameRuleText}
+use Rattle.patr_model.specs.Productions.{Grammar, SymbolText, PathText, TermText, AtomText, OfPath, EquationText, RuleText}
+use Rattle.patr_text.specs.declared.symbols.Id.{Id}
+use Rattle.patr_text.specs.Texts.{Extends}
+use Rattle.patr_grammar.specs.declared.grammar.Grammar as code_grammar
+use Rattle.patr_grammar.specs.Reading.{IsText, IsGrammar, rule_seen}
+use Rattle.patr_grammar.proofs.Tables.{each_still, text_still}
+
+-- what belongs together by fewer pairs of words does by more
+module _ {W V : Type 0} (P Q : W → V → Type 0) (f : (x : W) (y : V) → P x y → Q x y) where
+  both_still : (a : Option W) (b : Option V) → Both P a b → Both Q a b
+  both_still None None h = tt
+  both_still None (Some y) h = absurd h
+  both_still (Some x) None h = absurd h
+  both_still (Some x) (Some y) h = f x y h
+
+  symbol_still : (x : SymbolText W) (y : SymbolText V) → SameSymbolText P x y → SameSymbolText Q x y
+  symbol_still x y h = record { symbol = f x.symbol y.symbol h.symbol; category = f x.category y.category h.category }
+
+  path_still : (p : PathText W) (q : PathText V) → SamePathText P p q → SamePathText Q p q
+  path_still p q h = record { head = both_still p.head q.head h.head; attributes = each_still P Q f p.attributes q.attributes h.attributes }
+
+  term_still : (t : TermText W) (u : TermText V) → SameTermText P t u → SameTermText Q t u
+  term_still (AtomText a) (AtomText b) h = f a b h
+  term_still (AtomText a) (OfPath q) h = absurd h
+  term_still (OfPath p) (AtomText b) h = absurd h
+  term_still (OfPath p) (OfPath q) h = path_still p q h
+
+  equation_still : (e : EquationText W) (e' : EquationText V) → SameEquationText P e e' → SameEquationText Q e e'
+  equation_still e e' h = record { left = path_still e.left e'.left h.left; right = term_still e.right e'.right h.right }
+
+mutual
+  row_still : {X Y : Type 0} (R S : X → Y → Type 0) → ((x : X) (y : Y) → R x y → S x y) → (r : Row X) (s : Row Y) → SameRow R r s → SameRow S r s
+  row_still R S f Done Done h = tt
+  row_still R S f (One x r) (One y s) h = (f x y h.0, row_still R S f r s h.1)
+  row_still R S f (OneOf rs r) (OneOf ss s) h = (rows_still R S f rs ss h.0, row_still R S f r s h.1)
+  row_still R S f (Optional rs r) (Optional ss s) h = (rows_still R S f rs ss h.0, row_still R S f r s h.1)
+  row_still R S f Done (One y s) h = absurd h
+  row_still R S f Done (OneOf ss s) h = absurd h
+  row_still R S f Done (Optional ss s) h = absurd h
+  row_still R S f (One x r) Done h = absurd h
+  row_still R S f (One x r) (OneOf ss s) h = absurd h
+  row_still R S f (One x r) (Optional ss s) h = absurd h
+  row_still R S f (OneOf rs r) Done h = absurd h
+  row_still R S f (OneOf rs r) (One y s) h = absurd h
+  row_still R S f (OneOf rs r) (Optional ss s) h = absurd h
+  row_still R S f (Optional rs r) Done h = absurd h
+  row_still R S f (Optional rs r) (One y s) h = absurd h
+  row_still R S f (Optional rs r) (OneOf ss s) h = absurd h
+
+  rows_still : {X Y : Type 0} (R S : X → Y → Type 0) → ((x : X) (y : Y) → R x y → S x y) → (rs : Rows X) (ss : Rows Y) → SameRows' R rs ss → SameRows' S rs ss
+  rows_still R S f None' None' h = tt
+  rows_still R S f None' (Or s ss) h = absurd h
+  rows_still R S f (Or r rs) None' h = absurd h
+  rows_still R S f (Or r rs) (Or s ss) h = (row_still R S f r s h.0, rows_still R S f rs ss h.1)
+
+rule_still : (old new : List (List ℕ)) → Extends old new → (r : RuleText Id) (s : RuleText (List ℕ)) → SameRuleText (IsText old) r s → SameRuleText (IsText new) r s
+rule_still old new e r s h =
+    let f : (i : Id) (t : List ℕ) → IsText old i t → IsText new i t = λ i t is. text_still old new e i.0 t is in
+    record {
+      line = h.line;
+      name = each_still (IsText old) (IsText new) f r.name s.name h.name;
+      mother = symbol_still (IsText old) (IsText new) f r.mother s.mother h.mother;
+      right = row_still (SameSymbolText (IsText old)) (SameSymbolText (IsText new)) (symbol_still (IsText old) (IsText new) f) r.right s.right h.right;
+      equations = row_still (SameEquationText (IsText old)) (SameEquationText (IsText new)) (equation_still (IsText old) (IsText new) f) r.equations s.equations h.equations;
+    }
+
+-- a grammar that was read stays what was read in a longer table
+pub grammar_still : (old new : List (List ℕ)) → Extends old new → (g : code_grammar.Grammar) (t : Grammar (List ℕ)) → IsGrammar old g t → IsGrammar new g t
+grammar_still old new e g t h = record {
+  rules = each_still (SameRuleText (IsText old)) (SameRuleText (IsText new)) (rule_still old new e) (map rule_seen g.rules.items) t.rules h.rules;
+  start = text_still old new e g.start.0 t.start h.start;
+}

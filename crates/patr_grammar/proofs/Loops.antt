@@ -1,0 +1,116 @@
+-- What a loop has read, and what is still read.
+use Rattle.std.proofs.Common.{◌≡◌, ℕ, zero, suc, ◌-◌, ◌≤◌, true, false, List, [], ◌∷◌, ◌++◌, length, map, Err, Vec, Global, refl, sym, ap, ◌∙◌, arith, append_assoc, append-nil}
+use Rattle.patr_model.specs.Parsing as parsing
+use Rattle.patr_model.specs.Parsing.{Parse, Got, Stops, ◌>>=◌}
+use Rattle.patr_model.specs.Productions.{Left, Item, Single, SymbolText, RuleText, Clause, RuleClause, row, many_right, begins_outer, item, star_right, right_side, with_name, clause, clauses}
+use Rattle.patr_model.specs.Stages.{plain_rules}
+use Rattle.patr_text.specs.declared.fault.Fault.{Fault}
+use Rattle.patr_text.specs.declared.fault.Fault.TheVariants.{Memory, Refused}
+use Rattle.patr_text.specs.declared.symbols.Id.{Id}
+use Rattle.patr_grammar.specs.declared.lexeme.Lexeme.{Lexeme}
+use Rattle.patr_grammar.specs.declared.reader.Refusal.{Refusal}
+use Rattle.patr_grammar.specs.declared.grammar.Item as code_item
+use Rattle.patr_grammar.specs.declared.grammar.RuleText as code_rule
+use Rattle.patr_grammar.specs.Reading.{item_seen}
+use Rattle.patr_grammar.specs.Views.{by_id, refusal_seen, Gives, GivesAt, right_view, rule_view}
+
+-- things that were read before
+abbrev pub onto : {T W S X : Type 0} → List X → Parse T W S (List X) → Parse T W S (List X)
+onto front p = p >>= λ xs s. Got (front ++ xs) s
+
+pub onto_one : {T W S X : Type 0} (front : List X) (x : X) (p : Parse T W S (List X)) → onto front (p >>= λ xs s. Got (x ∷ xs) s) ≡ onto (front ++ x ∷ []) p
+onto_one {X = X} front x (Got xs s) = ap (λ (ys : List X). Got ys s) (sym (append_assoc front (x ∷ []) xs))
+onto_one front x (Stops r ts) = refl
+
+one_more : (n : ℕ) → 1 ≤ n → n ≡ suc (n - 1)
+one_more n h = omega arith
+
+-- ---- items of a right side
+
+abbrev Items : Type 0
+Items = List (Item (SymbolText Id))
+
+abbrev ItemParse : Type 0
+ItemParse = Parse Lexeme Id (Left Lexeme) Items
+
+-- an item of the code
+abbrev pub item_view : code_item.Item → Item (SymbolText Id)
+item_view i = Single (item_seen i)
+
+-- an item without groups
+abbrev pub plain_item : Left Lexeme → Parse Lexeme Id (Left Lexeme) (Item (SymbolText Id))
+plain_item s = item by_id false 16 s
+
+abbrev pub so_far : Items → ℕ → Left Lexeme → ItemParse
+so_far front n s = onto front (many_right by_id n (begins_outer by_id) (item by_id false 16) s)
+
+abbrev pub all_items : List Lexeme → ItemParse
+all_items ts = star_right by_id (begins_outer by_id) (item by_id false 16) (record { symbols = 32; tokens = ts })
+
+more_items : (front : Items) (n : ℕ) (s t : Left Lexeme) (x : Item (SymbolText Id)) → begins_outer by_id s.tokens ≡ true → plain_item s ≡ Got x t → so_far front (suc n) s ≡ so_far (front ++ x ∷ []) n t
+unfolding many_right
+more_items front n s t x h e = rw (h, e) (onto_one front x (many_right by_id n (begins_outer by_id) (item by_id false 16) t))
+
+items_stop : (front : Items) (n : ℕ) (s : Left Lexeme) (r : parsing.Refusal Id) (rest : List Lexeme) → begins_outer by_id s.tokens ≡ true → plain_item s ≡ Stops r rest → so_far front (suc n) s ≡ Stops r rest
+unfolding many_right
+items_stop front n s r rest h e = rw (h, e) refl
+
+items_end : (front : Items) (n : ℕ) (s : Left Lexeme) → begins_outer by_id s.tokens ≡ false → so_far front n s ≡ Got front s
+unfolding many_right
+items_end front zero s h = ap (λ (xs : Items). Got xs s) (append-nil front)
+items_end front (suc n) s h = rw h (ap (λ (xs : Items). Got xs s) (append-nil front))
+
+not_empty : (ts : List Lexeme) → begins_outer by_id ts ≡ true → 1 ≤ length ts
+not_empty [] h = absurd cc
+not_empty (t ∷ ts) h = omega arith
+
+pub right_stops : (f : Fault Refusal) (front : Items) (n : ℕ) (s state : Left Lexeme) (rest ts : List Lexeme) → begins_outer by_id s.tokens ≡ true → length s.tokens ≤ n → so_far front n s ≡ all_items ts
+    → GivesAt item_view (Err f) state rest (plain_item s) → Gives right_view (Err f) rest (right_side by_id plain_rules ts)
+right_stops Memory front n s state rest ts h le e g = tt
+right_stops (Refused r) front n s state rest ts h le e g =
+    let k = one_more n (omega (arith, not_empty s.tokens h)) in
+    ap (λ (p : ItemParse). p >>= λ xs s. Got (row xs) s.tokens) (sym e ∙ ap (λ (m : ℕ). so_far front m s) k ∙ items_stop front (n - 1) s (refusal_seen r) rest h g)
+
+pub right_more : (front : Items) (n : ℕ) (s t : Left Lexeme) (x : Item (SymbolText Id)) (ts : List Lexeme) → begins_outer by_id s.tokens ≡ true → length s.tokens ≤ n → so_far front n s ≡ all_items ts → plain_item s ≡ Got x t
+    → so_far (front ++ x ∷ []) (n - 1) t ≡ all_items ts
+right_more front n s t x ts h le e g =
+    let k = one_more n (omega (arith, not_empty s.tokens h)) in
+    sym (more_items front (n - 1) s t x h g) ∙ ap (λ (m : ℕ). so_far front m s) (sym k) ∙ e
+
+pub right_ends : (front : Items) (n : ℕ) (s : Left Lexeme) (ts : List Lexeme) → begins_outer by_id s.tokens ≡ false → so_far front n s ≡ all_items ts → right_side by_id plain_rules ts ≡ Got (row front) s.tokens
+right_ends front n s ts h e = ap (λ (p : ItemParse). p >>= λ xs s. Got (row xs) s.tokens) (sym e ∙ items_end front n s h)
+
+-- ---- clauses
+
+abbrev Clauses : Type 0
+Clauses = Parse Lexeme Id (List Lexeme) (List (Clause Id))
+
+abbrev pub clauses_from : List (Clause Id) → ℕ → List Lexeme → Clauses
+clauses_from front n ts = onto front (clauses by_id plain_rules n [] ts)
+
+abbrev read_clause : List (Clause Id) → ℕ → Parse Lexeme Id (List Lexeme) (Clause Id) → Clauses
+read_clause front n p = onto front (p >>= λ c rest. clauses by_id plain_rules n (with_name c []) rest >>= λ cs rest. Got (c ∷ cs) rest)
+
+clause_more : (front : List (Clause Id)) (n : ℕ) (ts rest : List Lexeme) (x : RuleText Id) → 1 ≤ length ts → clause by_id plain_rules [] ts ≡ Got (RuleClause x) rest → clauses_from front (suc n) ts ≡ clauses_from (front ++ RuleClause x ∷ []) n rest
+unfolding clauses
+clause_more front n [] rest x h e = absurd (omega arith)
+clause_more front n (t ∷ ts) rest x h e = ap (read_clause front n) e ∙ onto_one front (RuleClause x) (clauses by_id plain_rules n [] rest)
+
+clause_stops : (front : List (Clause Id)) (n : ℕ) (ts rest : List Lexeme) (r : parsing.Refusal Id) → 1 ≤ length ts → clause by_id plain_rules [] ts ≡ Stops r rest → clauses_from front (suc n) ts ≡ Stops r rest
+unfolding clauses
+clause_stops front n [] rest r h e = absurd (omega arith)
+clause_stops front n (t ∷ ts) rest r h e = ap (read_clause front n) e
+
+pub clauses_end : (front : List (Clause Id)) (n : ℕ) (ts : List Lexeme) (total : Clauses) → length ts ≡ 0 → clauses_from front n ts ≡ total → total ≡ Got front ts
+unfolding clauses
+clauses_end front n [] total h e = sym e ∙ ap (λ (cs : List (Clause Id)). Got cs []) (append-nil front)
+clauses_end front n (t ∷ ts) total h e = absurd (omega arith)
+
+pub clauses_more : (front : List (Clause Id)) (n : ℕ) (ts rest : List Lexeme) (x : RuleText Id) (total : Clauses) → 1 ≤ length ts → length ts ≤ n → clauses_from front n ts ≡ total → clause by_id plain_rules [] ts ≡ Got (RuleClause x) rest
+    → clauses_from (front ++ RuleClause x ∷ []) (n - 1) rest ≡ total
+clauses_more front n ts rest x total one le e g = sym (clause_more front (n - 1) ts rest x one g) ∙ ap (λ (m : ℕ). clauses_from front m ts) (sym (one_more n (omega arith))) ∙ e
+
+pub clauses_stop : (f : Fault Refusal) (front : List (Clause Id)) (n : ℕ) (ts rest : List Lexeme) (total : Clauses) → 1 ≤ length ts → length ts ≤ n → clauses_from front n ts ≡ total
+    → Gives rule_view (Err f) rest (clause by_id plain_rules [] ts) → Gives (λ (v : Vec code_rule.RuleText Global). map rule_view v.items) (Err f) rest total
+clauses_stop Memory front n ts rest total one le e g = tt
+clauses_stop (Refused r) front n ts rest total one le e g = sym e ∙ ap (λ (m : ℕ). clauses_from front m ts) (one_more n (omega arith)) ∙ clause_stops front (n - 1) ts rest (refusal_seen r) one g

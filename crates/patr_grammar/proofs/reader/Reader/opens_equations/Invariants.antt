@@ -1,0 +1,7 @@
+use Rattle.std.proofs.Common.{◌≡◌, drop}
+use Rattle.patr_model.specs.Productions.{opens_equations}
+use Rattle.patr_grammar.specs.Views.{by_id}
+use Rattle.patr_grammar.proofs.reader.Reader.opens_equations.Given as goal
+
+abbrev pub invariant-loop-lexeme : goal.invariant-loop-lexeme
+invariant-loop-lexeme l = opens_equations by_id (drop l.lexeme-index l.self.rest.now) ≡ opens_equations by_id l.self.rest.now
