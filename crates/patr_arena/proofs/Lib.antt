@@ -1,0 +1,10 @@
+pub mod Sizes
+pub mod Rises
+pub mod Showing
+pub mod Cutting
+pub mod RowsShow
+pub mod Results
+pub mod SameArenas
+pub mod Arcs
+pub mod Addresses
+pub mod Maps

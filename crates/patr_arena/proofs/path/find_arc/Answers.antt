@@ -1,0 +1,14 @@
+use Rattle.std.proofs.Common.{Ok, Err, sym, rules}
+use Rattle.std.proofs.lemmas.List.Sorted.{answers_always}
+use Rattle.patr_arena.proofs.Arcs.{searched}
+use Rattle.patr_arena.proofs.path.find_arc.Goals as goal
+
+pub returns-in-Ok : goal.returns-in-Ok
+returns-in-Ok c =
+    let by_attribute = c.in-Ok.ensures.position (λ arc. arc.attribute.0) (answers_always _ _ _ (λ f a r g called. search rules)) in
+    sym (searched c.args.arcs.now c.requires c.args.attribute.0 (Ok c.in-Ok.place) c.in-Ok.ensures.bound by_attribute _)
+
+pub returns-in-Err : goal.returns-in-Err
+returns-in-Err c =
+    let by_attribute = c.in-Err.ensures.position (λ arc. arc.attribute.0) (answers_always _ _ _ (λ f a r g called. search rules)) in
+    sym (searched c.args.arcs.now c.requires c.args.attribute.0 (Err c.in-Err.field-0) c.in-Err.ensures.bound by_attribute)

@@ -1,0 +1,10 @@
+pub mod Shown
+pub mod Blocks
+pub mod Facts
+pub mod Rows
+pub mod Cuts
+pub mod Arenas
+pub mod Paths
+pub mod Sentences
+pub mod Mapping
+pub mod Views
