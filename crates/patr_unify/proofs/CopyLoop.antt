@@ -1,0 +1,145 @@
+-- Where the copy's loop begins, and why it ends.
+use Rattle.std.proofs.Common.{◌≡◌, ◌≢◌, ℕ, zero, suc, ◌+◌, ◌*◌, ◌<◌, inl, inr, List, [], ◌∷◌, ◌++◌, length, length-append, refl, sym, ap, ◌∙◌, subst, arith}
+use Rattle.std.proofs.lemmas.Bool.{cases_eq}
+use Rattle.patr_model.specs.Structure.{Value, Node}
+use Rattle.patr_marks.specs.Machine.{Has, total}
+use Rattle.patr_marks.specs.Settled.{Copy, Copying, IsCopy, IsSparing, all_arcs, base, covered, extend, keep_end, keeps, led_by, new_end, stays, through}
+use Rattle.patr_marks.specs.Settled as marks_settled
+use Rattle.patr_marks.specs.Settled.{IsFinal, follow}
+use Rattle.patr_marks.specs.Sides.{IsSide}
+use Rattle.patr_marks.proofs.Room.{total_change}
+use Rattle.patr_marks.proofs.Growth.{nothing_spares}
+use Rattle.patr_marks.proofs.Reach.{copy_starts}
+use Rattle.patr_arena.specs.Blocks.{OldIsHeld}
+use Rattle.patr_arena.specs.Shown.{Shown, IsShown}
+use Rattle.patr_arena.specs.declared.value.Feature.{Feature}
+use Rattle.patr_scratch.specs.declared.Place.{Place}
+use Rattle.patr_scratch.specs.declared.Visit.{Visit}
+use Rattle.patr_scratch.specs.declared.Visit.TheVariants as visit
+use Rattle.patr_scratch.specs.Contents.{Contents}
+use Rattle.patr_unify.specs.declared.draft.Draft.{Draft}
+use Rattle.patr_unify.specs.Copying.{HasFinished, HasGoneOn, MarkFits, copying_by}
+use Rattle.patr_unify.specs.Deciding.{IsEndOfLeft, IsSettledFor}
+use Rattle.patr_unify.specs.Merging.{both}
+use Rattle.patr_unify.specs.Reading.{key, slot_of}
+use Rattle.patr_unify.specs.Walking.{IsVisited, end_value, visit_of}
+use Rattle.patr_unify.specs.Stepping.{upto}
+use Rattle.patr_unify.proofs.Outcomes.{key_below}
+use Rattle.patr_unify.proofs.Running.{total_ext, upto_in, upto_once}
+use Rattle.patr_unify.proofs.Worked.{HasCopied}
+
+-- where the copy begins
+pub copied_starts : (v : Shown) (w t : Contents) (l : ℕ) (r : Value) (p : List ℕ) (set : IsSettledFor v w l p r) → marks_settled.Fits (IsSide v.structure l r) (copying_by v w) → (rank : ℕ → ℕ)
+    → ((j k a : ℕ) (x : Value) → IsEndOfLeft v w l j → Has (both v w j) a x → end_value v w x ≡ Node k → rank k < rank j)
+    → (root : Place) → end_value v w (Node l) ≡ Node (key v root) → IsVisited v w t (key v root) visit.Entered → HasCopied v w t l r [] 0 0 (key v root ∷ [])
+copied_starts v w t l r p set fits rank falls root from visited =
+    let still = visited.still in
+    let K = key v root in
+    record {
+      still = record { places = still.places; pair_room = still.pair_room; visit_room = still.visit_room; forward = still.forward; added = still.added };
+      rank = rank;
+      falls = falls;
+      ks = [];
+      value = λ k. Node 0;
+      copy = copy_starts (IsSide v.structure l r) (copying_by v w) fits;
+      sparing = nothing_spares (copying_by v w);
+      once = tt;
+      ends = λ k m. elim m [ inl i ↦ elim i [ inl e ↦ (0, from ∙ ap Node e) | inr j ↦ absurd j ] | inr i ↦ absurd i ];
+      apart = λ k m i. i;
+      falling = (λ j m. absurd m, tt);
+      root = λ k e. inl (inl (one K k (sym from ∙ e)));
+      entered = λ k m. elim m [ inl i ↦ elim i [ inl e ↦ ap (visit_of v t) (sym e) ∙ visited.here | inr j ↦ absurd j ] | inr i ↦ absurd i ];
+      back = λ k e. elim (cases_eq k K) [ inl f ↦ inl (inl (sym f)) | inr ne ↦ absurd (not_entered k (sym (visited.others k ne) ∙ e)) ];
+      others = λ k. elim (cases_eq k K) [ inl f ↦ inl (ap (visit_of v t) f ∙ visited.here) | inr ne ↦ inr (visited.others k ne) ];
+      marked = λ k m. absurd m;
+      fits = λ j. subst (MarkFits v 0) (sym (still.copied j ∙ set.uncopied j)) tt;
+      old = nothing_old;
+      nodes_are = refl;
+      arcs_are = refl;
+    }
+  where
+    one : (j k : ℕ) → Node j ≡ Node k → j ≡ k
+    one j k e = cc
+
+    nothing_old : OldIsHeld v []
+    nothing_old zero = tt
+    nothing_old (suc k) = tt
+
+    two_visits : {A : Type 0} (x : Visit) → x ≡ visit.Entered → x ≡ visit.Left → A
+    two_visits visit.Unseen e f = cc
+    two_visits visit.Entered e f = cc
+    two_visits visit.Left e f = cc
+
+    unseen_visit : {A : Type 0} (x : Visit) → x ≡ visit.Entered → x ≡ visit.Unseen → A
+    unseen_visit visit.Unseen e f = cc
+    unseen_visit visit.Entered e f = cc
+    unseen_visit visit.Left e f = cc
+
+    not_entered : (k : ℕ) → visit_of v w k ≡ visit.Entered → ⊥
+    not_entered k e = unseen_visit (visit_of v w k) e (set.unseen k (λ h. two_visits (visit_of v w k) e (set.left k h)))
+
+-- the stack may change beside it
+pub copied_moved : (v : Shown) (w t u : Contents) (l : ℕ) (r : Value) (block : List (List Feature)) (nodes arcs : ℕ) (stack : List ℕ) (ps : List Place) → HasCopied v w t l r block nodes arcs stack → u ≡ record t { visits = ps } → HasCopied v w u l r block nodes arcs stack
+copied_moved v w t u l r block nodes arcs stack ps h e = subst (λ z. HasCopied v w z l r block nodes arcs stack) (sym e) (record {
+  still = record { places = h.still.places; pair_room = h.still.pair_room; visit_room = h.still.visit_room; forward = h.still.forward; added = h.still.added };
+  rank = h.rank;
+  falls = h.falls;
+  ks = h.ks;
+  value = h.value;
+  copy = h.copy;
+  sparing = h.sparing;
+  once = h.once;
+  ends = h.ends;
+  apart = h.apart;
+  falling = h.falling;
+  root = h.root;
+  entered = h.entered;
+  back = h.back;
+  others = h.others;
+  marked = h.marked;
+  fits = h.fits;
+  old = h.old;
+  nodes_are = h.nodes_are;
+  arcs_are = h.arcs_are;
+})
+
+-- twice one for a place that was not entered
+abbrev pub to_enter : Visit → ℕ
+to_enter visit.Unseen = 2
+to_enter visit.Entered = 0
+to_enter visit.Left = 2
+
+abbrev pub unentered_of : Shown → Contents → ℕ → ℕ
+unentered_of v w k = to_enter (visit_of v w k)
+
+enter_two : (x : Visit) → x ≢ visit.Entered → to_enter x ≡ 2
+enter_two visit.Unseen n = refl
+enter_two visit.Entered n = absurd (n refl)
+enter_two visit.Left n = refl
+
+-- with each turn less is left to enter
+pub going_falls : (v : Shown) → IsShown v → (t u x : Contents) (top : Place) (old new : Draft) → u ≡ record t { visits = u.visits } → t.visits ≡ u.visits ++ top ∷ [] → HasGoneOn v u x top old new
+    → total (unentered_of v x) (upto (2 * length v.structure)) + length x.visits < total (unentered_of v t) (upto (2 * length v.structure)) + length t.visits
+going_falls v s t u x top old new e q (inl a) =
+    let come = a.0 in
+    let p = come.2 in
+    let all = upto (2 * length v.structure) in
+    let same : total (unentered_of v u) all ≡ total (unentered_of v t) all = ap (λ z. total (unentered_of v z) all) e in
+    let change = total_change (unentered_of v x) (unentered_of v u) all (key v p) (upto_once (2 * length v.structure)) (upto_in (2 * length v.structure) (key v p) (key_below v s p come.4.0)) (λ k ne. ap to_enter (come.5.others k ne)) in
+    let was : unentered_of v u (key v p) ≡ 2 = enter_two (visit_of v u (key v p)) come.4.2 in
+    let is : unentered_of v x (key v p) ≡ 0 = ap to_enter come.5.here in
+    let size = ap (length {A = Place}) q ∙ length-append u.visits (top ∷ []) in
+    let pushed = ap (length {A = Place}) come.6 ∙ length-append u.visits (top ∷ p ∷ []) in
+    omega (arith, same, change, was, is, size, pushed)
+going_falls v s t u x top old new e q (inr a) =
+    let all = upto (2 * length v.structure) in
+    let same : total (unentered_of v u) all ≡ total (unentered_of v t) all = ap (λ z. total (unentered_of v z) all) e in
+    let kept = marked_visits (a.1) in
+    let left : total (unentered_of v x) all ≡ total (unentered_of v u) all = total_ext (unentered_of v x) (unentered_of v u) all (λ k. ap to_enter (kept.0 k)) in
+    let size = ap (length {A = Place}) q ∙ length-append u.visits (top ∷ []) in
+    let stack = ap (length {A = Place}) kept.1 in
+    omega (arith, same, left, size, stack)
+  where
+    marked_visits : HasFinished v u x top old new → ((k : ℕ) → visit_of v x k ≡ visit_of v u k) × (x.visits ≡ u.visits)
+    marked_visits (inl h) = (λ k. h.marked.visit (slot_of (length v.structure) k), h.marked.visits)
+    marked_visits (inr h) = (λ k. h.marked.visit (slot_of (length v.structure) k), h.marked.visits)

@@ -1,0 +1,105 @@
+-- The turns of the copy's loop.
+use Rattle.std.proofs.Common.{◌≡◌, ℕ, ◌+◌, ◌<◌, ◌≤◌, inl, inr, List, [], ◌∷◌, ◌++◌, length, length-append, map, refl, sym, ap, ◌∙◌, subst, arith}
+use Rattle.std.proofs.lemmas.List.{length-map}
+use Rattle.patr_model.specs.Structure.{Value, Node}
+use Rattle.patr_marks.specs.Machine.{IsIn}
+use Rattle.patr_marks.specs.Settled.{IsFinal, IsSettled}
+use Rattle.patr_marks.specs.Sides.{IsSide}
+use Rattle.patr_marks.proofs.Settles.{follow_final}
+use Rattle.patr_marks.proofs.Walk.{rank}
+use Rattle.patr_arena.specs.Shown.{Shown, IsShown, IsHeld}
+use Rattle.patr_arena.specs.declared.value.Feature.{Feature}
+use Rattle.patr_arena.specs.declared.value.Ref.{Ref}
+use Rattle.patr_scratch.specs.declared.Place.{Place}
+use Rattle.patr_scratch.specs.declared.Visit.TheVariants as visit
+use Rattle.patr_scratch.specs.Contents.{Contents}
+use Rattle.patr_unify.specs.declared.draft.Draft.{Draft}
+use Rattle.patr_unify.specs.Copying.{HasGoneOn, HasRoomToEnter, IsEndRef, IsMade}
+use Rattle.patr_unify.specs.Deciding.{IsEndOfLeft, IsSettledFor, marks_by}
+use Rattle.patr_unify.specs.Reading.{forward_of, key}
+use Rattle.patr_unify.specs.Walking.{IsVisited, VisitsHeld, end_value, stack_of}
+use Rattle.patr_unify.proofs.Building.{came_to, renewed, room_to_enter, stayed}
+use Rattle.patr_unify.proofs.Worked.{HasCopied, worked_end}
+use Rattle.patr_unify.proofs.CopyLoop.{copied_moved, copied_starts}
+use Rattle.patr_unify.proofs.Deciding.{all_covered, both_lists}
+use Rattle.patr_unify.proofs.Making.{made}
+use Rattle.patr_unify.proofs.Reaching.{copy_fits, image_falls, numbered, reached_is_end}
+use Rattle.patr_unify.proofs.Walked.{held_pushed, stack_length, stack_popped, stack_pushed}
+
+module _ (v : Shown) (s : IsShown v) (w : Contents) (l : ℕ) (p : List ℕ) (r : Value) (hl : l < length v.structure) (set : IsSettledFor v w l p r) where
+  end_side : (k : ℕ) → IsEndOfLeft v w l k → IsSide v.structure l r k
+  end_side k e = (reached_is_end v s w l p r hl set e.0 k e.1).0
+
+  -- the stack has room for all side nodes
+  abbrev lists : List ℕ
+  lists = both_lists (length v.structure) set.room.left.list set.room.right.list
+
+  covered_all : (k : ℕ) → IsSide v.structure l r k → IsIn lists k
+  covered_all = all_covered v.structure s.structure l r hl set.room.left.list set.room.right.list set.room.left.is set.room.right.is
+
+  lists_fit : length lists ≤ w.visit_room
+  lists_fit =
+      let size = length-append set.room.left.list (map (λ k. length v.structure + k) set.room.right.list) in
+      let mapped = length-map set.room.right.list (λ k. length v.structure + k) in
+      omega (arith, size, mapped, set.room.left.nodes_are, set.room.right.nodes_are, set.room.room.for_visits)
+
+  pub first_room : length w.visits < w.visit_room
+  first_room =
+      let some = has_some lists l (covered_all l (0, inl refl)) in
+      let none = ap (length {A = Place}) set.no_visits in
+      let fit = lists_fit in
+      omega (arith, some, none, fit)
+    where
+      has_some : (ks : List ℕ) (k : ℕ) → IsIn ks k → 1 ≤ length ks
+      has_some [] k m = absurd m
+      has_some (j ∷ ks) k m = omega arith
+
+  abbrev i : IsSettled v.structure l p r (marks_by v w)
+  i = numbered v s w l p r hl set
+
+  -- the root is entered
+  pub starts : (t : Contents) (root : Place) → end_value v w (Node l) ≡ Node (key v root) → IsVisited v w t (key v root) visit.Entered → t.visits ≡ w.visits ++ root ∷ [] → HasCopied v w t l r [] 0 0 (stack_of v t.visits)
+  starts t root from visited e =
+      let only : t.visits ≡ root ∷ [] = e ∙ ap (λ ps. ps ++ root ∷ []) set.no_visits in
+      subst (HasCopied v w t l r [] 0 0) (sym (ap (stack_of v) only))
+      (copied_starts v w t l r p set (copy_fits v s w l p r hl set) (λ k. rank (i.image (Node k))) (λ j k a x h n q. image_falls v s w l p r hl set j k a x (reached_is_end v s w l p r hl set h.0 j h.1) n q) root from visited)
+
+  -- the top is taken
+  pub at_top : (t u : Contents) (top : Place) (block : List (List Feature)) (nodes arcs : ℕ) → HasCopied v w t l r block nodes arcs (stack_of v t.visits) → u ≡ record t { visits = u.visits } → t.visits ≡ u.visits ++ top ∷ []
+      → HasCopied v w u l r block nodes arcs (key v top ∷ stack_of v u.visits)
+  at_top t u top block nodes arcs h e q =
+      copied_moved v w t u l r block nodes arcs (key v top ∷ stack_of v u.visits) u.visits (subst (HasCopied v w t l r block nodes arcs) (ap (stack_of v) q ∙ stack_popped v u.visits top) h) e
+
+  pub top_room : (u : Contents) (top : Place) (block : List (List Feature)) (nodes arcs : ℕ) → IsHeld v top.block top.offset → HasCopied v w u l r block nodes arcs (key v top ∷ stack_of v u.visits) → HasRoomToEnter v u (key v top)
+  top_room u top block nodes arcs held h =
+      room_to_enter v s w u u l r p set (copy_fits v s w l p r hl set) end_side block nodes arcs top held (stack_of v u.visits) h lists covered_all lists_fit (stack_length v u.visits)
+
+  -- and one turn is made
+  pub turned : (u x : Contents) (top : Place) (old new : Draft) → IsHeld v top.block top.offset → HasCopied v w u l r old.block old.nodes old.arcs (key v top ∷ stack_of v u.visits) → HasGoneOn v u x top old new
+      → HasCopied v w x l r new.block new.nodes new.arcs (stack_of v x.visits)
+  turned u x top old new held h (inl (come, same)) =
+      let next = came_to v s w u x l r p set (copy_fits v s w l p r hl set) end_side old.block old.nodes old.arcs top held (stack_of v u.visits) h come in
+      subst (λ (d : Draft). HasCopied v w x l r d.block d.nodes d.arcs (stack_of v x.visits)) (sym same)
+      (subst (HasCopied v w x l r old.block old.nodes old.arcs) (sym (ap (stack_of v) come.6 ∙ stack_pushed v u.visits top come.2)) next)
+  turned u x top old new held h (inr (none, inl done)) =
+      let next = stayed v s w u x l r p set (copy_fits v s w l p r hl set) end_side old.block old.nodes old.arcs top held (stack_of v u.visits) h none done.kept done.marked new.nodes new.arcs done.nodes done.arcs in
+      subst (λ b. HasCopied v w x l r b new.nodes new.arcs (stack_of v x.visits)) (sym done.block) (subst (HasCopied v w x l r old.block new.nodes new.arcs) (sym (ap (stack_of v) done.marked.visits)) next)
+  turned u x top old new held h (inr (none, inr done)) =
+      let next = renewed v s w u x l r p set (copy_fits v s w l p r hl set) end_side old.block old.nodes old.arcs top held (stack_of v u.visits) h none done.changed done.features done.node done.marked new.nodes new.arcs done.nodes done.arcs in
+      subst (λ b. HasCopied v w x l r b new.nodes new.arcs (stack_of v x.visits)) (sym done.block)
+      (subst (HasCopied v w x l r (old.block ++ done.features ∷ []) new.nodes new.arcs) (sym (ap (stack_of v) done.marked.visits)) next)
+
+  -- all is copied
+  pub finished : (t u : Contents) (root : Place) (block : List (List Feature)) (nodes arcs : ℕ) (q : Ref) → end_value v w (Node l) ≡ Node (key v root) → HasCopied v w t l r block nodes arcs (stack_of v t.visits) → u ≡ record t { visits = u.visits }
+      → t.visits ≡ [] → IsEndRef v u (end_value v u (Node (key v root))) q → IsMade v l p r block q nodes arcs
+  finished t u root block nodes arcs q from h e none is =
+      let has = copied_moved v w t u l r block nodes arcs [] u.visits (subst (HasCopied v w t l r block nodes arcs) (ap (stack_of v) none) h) e in
+      let final : IsFinal (forward_of v w) (Node (key v root)) = subst (IsFinal (forward_of v w)) from (set.ending (Node l)) in
+      let same : end_value v u (Node (key v root)) ≡ end_value v w (Node l) = worked_end v w u has.still (Node (key v root)) ∙ (follow_final w.pair_room (forward_of v w) (Node (key v root)) final ∙ sym from) in
+      made v s w u l p r hl set block nodes arcs has q (subst (λ x. IsEndRef v u x q) same is)
+
+-- what is held on the stack
+pub gone_held : (v : Shown) (u x : Contents) (top : Place) (old new : Draft) → IsHeld v top.block top.offset → VisitsHeld v u.visits → HasGoneOn v u x top old new → VisitsHeld v x.visits
+gone_held v u x top old new held h (inl (come, same)) = subst (VisitsHeld v) (sym come.6) (held_pushed v u.visits (top ∷ come.2 ∷ []) h (held, (come.4.0, tt)))
+gone_held v u x top old new held h (inr (none, inl done)) = subst (VisitsHeld v) (sym done.marked.visits) h
+gone_held v u x top old new held h (inr (none, inr done)) = subst (VisitsHeld v) (sym done.marked.visits) h

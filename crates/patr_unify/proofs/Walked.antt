@@ -1,0 +1,333 @@
+-- The walk over the ends that the left side reaches, step by step.
+use Rattle.std.proofs.Common.{◌≡◌, ◌≢◌, ℕ, ◌+◌, ◌*◌, ◌<◌, ◌≤◌, ◌⊎◌, inl, inr, Option, Some, None, MatchOption, List, [], ◌∷◌, ◌++◌, length, length-append, map, reverse, refl, sym, ap, ◌∙◌, subst, arith}
+use Rattle.std.proofs.lemmas.Bool.{cases_eq}
+use Rattle.std.proofs.lemmas.List.{reverse-append, length-map, length-reverse}
+use Rattle.patr_model.specs.Structure.{Value, Atom, Node}
+use Rattle.patr_marks.specs.Machine.{Forward, Has, IsIn, arcs_at, ends, own, total}
+use Rattle.patr_marks.specs.Quotient.{Below}
+use Rattle.patr_marks.specs.Sides.{sides}
+use Rattle.patr_marks.specs.Walk.{IsWalk, Leads, ReachedIn}
+use Rattle.patr_marks.proofs.Bounds.{stack_room}
+use Rattle.patr_marks.proofs.Room.{total_change}
+use Rattle.patr_marks.proofs.Walk.{walk_starts, walk_enters, walk_leaves, walk_done}
+use Rattle.patr_arena.specs.Shown.{Shown, IsShown, IsHeld}
+use Rattle.patr_scratch.specs.declared.Place.{Place}
+use Rattle.patr_scratch.specs.declared.Target.{Target}
+use Rattle.patr_scratch.specs.declared.Visit.{Visit}
+use Rattle.patr_scratch.specs.declared.Visit.TheVariants as visit
+use Rattle.patr_scratch.specs.Contents.{Contents}
+use Rattle.patr_unify.specs.Reading.{AreHeld, LinksHeld, OptionIsHeld, IsEndOf, added_of, forward_of, key, marks_in, slot_of, state_of, value_at}
+use Rattle.patr_unify.specs.Reading.{option_at}
+use Rattle.patr_unify.specs.Reading as reading
+use Rattle.patr_unify.specs.Merging.{both}
+use Rattle.patr_unify.specs.Stepping.{HasLog, upto}
+use Rattle.patr_unify.specs.Walking.{AllEnd, HasEntered, HasLeft, HasStack, HasVisit, HasVisitRoom, HasWalked, IsAtPlace, IsLedBack, IsOther, IsStill, IsVisited, IsWalkable, IsWalkedOff, LeadsBack, VisitsHeld, end_value, stack_of, to_visit, unseen_of, visit_of}
+use Rattle.patr_unify.proofs.Running.{total_ext, upto_in, upto_once}
+use Rattle.patr_unify.proofs.Outcomes.{end_by_log, end_is, key_below, log_ends}
+
+-- what stays where only visits change
+pub still_then : (w t u : Contents) → IsStill w t → IsStill t u → IsStill w u
+still_then w t u h k = record {
+  places = k.places ∙ h.places;
+  arcs = k.arcs ∙ h.arcs;
+  arc_room = k.arc_room ∙ h.arc_room;
+  pairs = k.pairs ∙ h.pairs;
+  pair_room = k.pair_room ∙ h.pair_room;
+  visit_room = k.visit_room ∙ h.visit_room;
+  forward = λ j. k.forward j ∙ h.forward j;
+  copied = λ j. k.copied j ∙ h.copied j;
+  added = λ j. k.added j ∙ h.added j;
+}
+
+pub still_same : (w : Contents) → IsStill w w
+still_same w = record {
+  places = refl;
+  arcs = refl;
+  arc_room = refl;
+  pairs = refl;
+  pair_room = refl;
+  visit_room = refl;
+  forward = λ j. refl;
+  copied = λ j. refl;
+  added = λ j. refl;
+}
+
+pub still_forward : (v : Shown) (w t : Contents) → IsStill w t → (k : ℕ) → forward_of v t k ≡ forward_of v w k
+still_forward v w t h k = ap (option_at v) (h.forward (slot_of (length v.structure) k))
+
+pub still_added : (v : Shown) (w t : Contents) → IsStill w t → (k : ℕ) → added_of v t k ≡ added_of v w k
+still_added v w t h k = ap (reading.arcs_at v) (h.added (slot_of (length v.structure) k))
+
+pub still_both : (v : Shown) (w t : Contents) → IsStill w t → (k : ℕ) → both v t k ≡ both v w k
+still_both v w t h k = ap (λ es. own (sides v.structure) k ++ es) (still_added v w t h k)
+
+pub still_held : (v : Shown) (w t : Contents) → IsStill w t → AreHeld v w → AreHeld v t
+still_held v w t h a = record {
+  room = omega (arith, h.places, a.room);
+  forwards = λ j. subst (OptionIsHeld v) (sym (h.forward j)) (a.forwards j);
+  added = λ j. subst (LinksHeld v) (sym (h.added j)) (a.added j);
+}
+
+pub still_log : (v : Shown) (w t : Contents) (log : List Forward) → IsStill w t → HasLog v w log → HasLog v t log
+still_log v w t log h l = record { is_log = l.is_log; table = λ k. still_forward v w t h k ∙ l.table k }
+
+pub still_end : (v : Shown) (w t : Contents) (l : ℕ) (i : IsWalkable v w l) → IsStill w t → (x : Value) → end_value v t x ≡ ends i.log x
+still_end v w t l i h x = end_by_log v t i.log x (still_log v w t i.log h i.has_log) (omega (arith, i.short, h.pair_room))
+
+pub still_ends : (v : Shown) (w t : Contents) (l : ℕ) (i : IsWalkable v w l) → IsStill w t → AllEnd v t
+still_ends v w t l i h = log_ends v t i.log (still_log v w t i.log h i.has_log) (omega (arith, i.short, h.pair_room))
+
+-- the stack
+pub stack_popped : (v : Shown) (ps : List Place) (p : Place) → stack_of v (ps ++ p ∷ []) ≡ key v p ∷ stack_of v ps
+stack_popped v ps p = ap (map (key v)) (reverse-append ps (p ∷ []))
+
+pub stack_pushed : (v : Shown) (ps : List Place) (a b : Place) → stack_of v (ps ++ a ∷ b ∷ []) ≡ key v b ∷ key v a ∷ stack_of v ps
+stack_pushed v ps a b = ap (map (key v)) (reverse-append ps (a ∷ b ∷ []))
+
+pub stack_length : (v : Shown) (ps : List Place) → length (stack_of v ps) ≡ length ps
+stack_length v ps = length-map (reverse ps) (key v) ∙ length-reverse ps
+
+pub held_popped : (v : Shown) (ps : List Place) (p : Place) → VisitsHeld v (ps ++ p ∷ []) → VisitsHeld v ps × IsHeld v p.block p.offset
+held_popped v [] p h = (tt, h.0)
+held_popped v (q ∷ ps) p h = let r = held_popped v ps p h.1 in ((h.0, r.0), r.1)
+
+pub held_pushed : (v : Shown) (ps qs : List Place) → VisitsHeld v ps → VisitsHeld v qs → VisitsHeld v (ps ++ qs)
+held_pushed v [] qs h k = k
+held_pushed v (p ∷ ps) qs h k = (h.0, held_pushed v ps qs h.1 k)
+
+stack_moved : (v : Shown) (w t u : Contents) (l : ℕ) (i : IsWalkable v w l) (stack : List ℕ) (ps : List Place) → HasStack v w t l i stack → u ≡ record t { visits = ps } → HasStack v w u l i stack
+stack_moved v w t u l i stack ps h e = subst (λ z. HasStack v w z l i stack) (sym e) (record {
+  still = record {
+    places = h.still.places;
+    arcs = h.still.arcs;
+    arc_room = h.still.arc_room;
+    pairs = h.still.pairs;
+    pair_room = h.still.pair_room;
+    visit_room = h.still.visit_room;
+    forward = h.still.forward;
+    copied = h.still.copied;
+    added = h.still.added;
+  };
+  root = h.root;
+  from = h.from;
+  order = h.order;
+  walk = h.walk;
+  entered = h.entered;
+  on_stack = h.on_stack;
+  left = h.left;
+  in_order = h.in_order;
+})
+
+-- the top of the stack is taken
+pub at_place : (v : Shown) (w t u : Contents) (l : ℕ) (i : IsWalkable v w l) (top : Place) → HasWalked v w t l i → u ≡ record t { visits = u.visits } → t.visits ≡ u.visits ++ top ∷ [] → IsAtPlace v w u l i top
+at_place v w t u l i top h e q =
+    let held = held_popped v u.visits top (subst (VisitsHeld v) q h.held) in
+    record {
+      top_held = held.1;
+      held = held.0;
+      has = stack_moved v w t u l i (key v top ∷ stack_of v u.visits) u.visits (subst (HasStack v w t l i) (ap (stack_of v) q ∙ stack_popped v u.visits top) h.has) e;
+    }
+
+-- three visits
+is_unseen : (x : Visit) → x ≢ visit.Left → x ≢ visit.Entered → x ≡ visit.Unseen
+is_unseen visit.Unseen a b = refl
+is_unseen visit.Entered a b = absurd (b refl)
+is_unseen visit.Left a b = absurd (a refl)
+
+entered_left : (x : Visit) → x ≡ visit.Entered → x ≡ visit.Left → ⊥
+entered_left visit.Unseen a b = cc
+entered_left visit.Entered a b = cc
+entered_left visit.Left a b = cc
+
+unseen_entered : (x : Visit) → x ≡ visit.Unseen → x ≡ visit.Entered → ⊥
+unseen_entered visit.Unseen a b = cc
+unseen_entered visit.Entered a b = cc
+unseen_entered visit.Left a b = cc
+
+unseen_left : {A : Type 0} (x : Visit) → x ≡ visit.Unseen → x ≡ visit.Left → A
+unseen_left visit.Unseen a b = cc
+unseen_left visit.Entered a b = cc
+unseen_left visit.Left a b = cc
+
+module _ (v : Shown) (w t : Contents) (l : ℕ) (i : IsWalkable v w l) (top : Place) (at : IsAtPlace v w t l i top) where
+  leads_on : (a : ℕ) (x : Value) (j : ℕ) → Has (both v t (key v top)) a x → end_value v t x ≡ Node j → Leads (sides v.structure) (state_of v w i.log) (key v top) j
+  leads_on a x j h e = (a, x, subst (λ es. Has es a x) (still_both v w t at.has.still (key v top)) h, sym (still_end v w t l i at.has.still x) ∙ e)
+
+  -- an end that was not visited makes the stack longer
+  longer : (a : ℕ) (x : Value) (p : Place) → Has (both v t (key v top)) a x → IsOther v t visit.Left x p → visit_of v t (key v p) ≢ visit.Entered
+      → IsWalk (sides v.structure) (state_of v w i.log) at.has.root (key v p ∷ key v top ∷ stack_of v t.visits) at.has.order
+  longer a x p h o n =
+      walk_enters (sides v.structure) (state_of v w i.log) at.has.root (key v top) (stack_of v t.visits) at.has.order (key v p) i.has_log.is_log at.has.walk (leads_on a x (key v p) h o.1)
+      (λ m. n (at.has.entered (key v p) m)) (λ m. o.2 (at.has.left (key v p) m))
+
+  -- and there is room for it
+  pub has_room : HasVisitRoom v t (key v top)
+  has_room a x p h o n =
+      let next = longer a x p h o n in
+      let size = stack_room (key v p ∷ key v top ∷ stack_of v t.visits) i.ks next.once (λ k m. let r = next.reached k (inr m) in i.reached at.has.root r.0 k at.has.from r.1) in
+      let stack = stack_length v t.visits in
+      omega (arith, size, stack, i.room, at.has.still.visit_room)
+
+  -- the walk goes on to it
+  pub entered_on : (u : Contents) → HasEntered v t u top → HasWalked v w u l i
+  entered_on u e =
+      let p = e.2 in
+      let o = e.4 in
+      let n = e.5 in
+      let set = e.6 in
+      let stack = key v top ∷ stack_of v t.visits in
+      let new : HasStack v w u l i (key v p ∷ stack) = record {
+        still = still_then w t u at.has.still set.still;
+        root = at.has.root;
+        from = at.has.from;
+        order = at.has.order;
+        walk = longer e.0 e.1 p e.3 o n;
+        entered = λ k m. elim (cases_eq k (key v p)) [ inl q ↦ ap (visit_of v u) q ∙ set.here | inr ne ↦ elim m [ inl q ↦ absurd (ne (sym q)) | inr r ↦ set.others k ne ∙ at.has.entered k r ] ];
+        on_stack = λ k m. elim (cases_eq k (key v p)) [ inl q ↦ inl (sym q) | inr ne ↦ inr (at.has.on_stack k (sym (set.others k ne) ∙ m)) ];
+        left = λ k m. elim (cases_eq k (key v p)) [ inl q ↦ absurd (o.2 (ap (visit_of v t) (sym q) ∙ at.has.left k m)) | inr ne ↦ set.others k ne ∙ at.has.left k m ];
+        in_order = λ k m. elim (cases_eq k (key v p)) [ inl q ↦ absurd (entered_left (visit_of v u k) (ap (visit_of v u) q ∙ set.here) m) | inr ne ↦ at.has.in_order k (sym (set.others k ne) ∙ m) ];
+      } in
+      record {
+        held = subst (VisitsHeld v) (sym e.7) (held_pushed v t.visits (top ∷ p ∷ []) at.held (at.top_held, (o.0, tt)));
+        has = subst (HasStack v w u l i) (sym (ap (stack_of v) e.7 ∙ stack_pushed v t.visits top p)) new;
+      }
+
+  below_of : (y : Value) → HasVisit v t visit.Left y → Below at.has.order y
+  below_of (Atom c) h = tt
+  below_of (Node k) h = at.has.in_order k h
+
+  -- the walk goes back
+  pub left_on : (u : Contents) → HasLeft v t u (key v top) → HasWalked v w u l i
+  left_on u e =
+      let set = e.0 in
+      let K = key v top in
+      let s = state_of v w i.log in
+      let all : (a : ℕ) (x : Value) → Has (arcs_at (sides v.structure) s K) a x → Below at.has.order (ends i.log x) =
+      λ a x h. below_of (ends i.log x) (subst (HasVisit v t visit.Left) (still_end v w t l i at.has.still x) (e.2 a x (subst (λ es. Has es a x) (sym (still_both v w t at.has.still K)) h))) in
+      let new : HasStack v w u l i (stack_of v t.visits) = record {
+        still = still_then w t u at.has.still set.still;
+        root = at.has.root;
+        from = at.has.from;
+        order = K ∷ at.has.order;
+        walk = walk_leaves (sides v.structure) s at.has.root K (stack_of v t.visits) at.has.order at.has.walk all;
+        entered = λ k m. set.others k (λ q. at.has.walk.once.0 (subst (IsIn (stack_of v t.visits)) q m)) ∙ at.has.entered k (inr m);
+        on_stack = λ k m. elim (cases_eq k K) [
+          | inl q ↦ absurd (entered_left (visit_of v u k) m (ap (visit_of v u) q ∙ set.here))
+          | inr ne ↦ elim (at.has.on_stack k (sym (set.others k ne) ∙ m)) [ inl q ↦ absurd (ne (sym q)) | inr r ↦ r ]
+        ];
+        left = λ k m. elim (cases_eq k K) [ inl q ↦ ap (visit_of v u) q ∙ set.here | inr ne ↦ elim m [ inl q ↦ absurd (ne (sym q)) | inr r ↦ set.others k ne ∙ at.has.left k r ] ];
+        in_order = λ k m. elim (cases_eq k K) [ inl q ↦ inl (sym q) | inr ne ↦ inr (at.has.in_order k (sym (set.others k ne) ∙ m)) ];
+      } in
+      record {
+        held = subst (VisitsHeld v) (sym e.1) at.held;
+        has = subst (HasStack v w u l i) (sym (ap (stack_of v) e.1)) new;
+      }
+
+  -- the walk is led back
+  pub led_back : LeadsBack v t (key v top) → IsLedBack v w l i
+  led_back b = (at.has.root, key v top, stack_of v t.visits, at.has.order, b.2, at.has.from, at.has.walk, leads_on b.0 b.1 b.2 b.3 b.4, at.has.on_stack b.2 b.5)
+
+-- the end of the left side
+pub root_is : (v : Shown) (w : Contents) (l : ℕ) (i : IsWalkable v w l) (from t : Target) → value_at v from ≡ Node l → IsEndOf v w from t → (ends i.log (Node l) ≡ value_at v t) × (ends i.log (value_at v t) ≡ value_at v t)
+root_is v w l i from t q e = let is = end_is v w i.log from t i.has_log e in (ap (ends i.log) (sym q) ∙ is.0, is.1)
+
+pub root_room : (v : Shown) (w : Contents) (l : ℕ) (i : IsWalkable v w l) (root : ℕ) → ends i.log (Node l) ≡ Node root → length w.visits < w.visit_room
+root_room v w l i root e =
+    let some = has_some i.ks root (i.reached root 0 root e refl) in
+    let none = ap (length {A = Place}) i.empty in
+    omega (arith, some, none, i.room)
+  where
+    has_some : (ks : List ℕ) (k : ℕ) → IsIn ks k → 1 ≤ length ks
+    has_some [] k m = absurd m
+    has_some (j ∷ ks) k m = omega arith
+
+-- where the walk begins
+pub walked_starts : (v : Shown) (w t : Contents) (l : ℕ) (i : IsWalkable v w l) (root : Place) → IsHeld v root.block root.offset → ends i.log (Node l) ≡ Node (key v root) → ends i.log (Node (key v root)) ≡ Node (key v root)
+    → IsVisited v w t (key v root) visit.Entered → t.visits ≡ w.visits ++ root ∷ [] → HasWalked v w t l i
+walked_starts v w t l i root held from is_end set e =
+    let K = key v root in
+    let only : t.visits ≡ root ∷ [] = e ∙ ap (λ ps. ps ++ root ∷ []) i.empty in
+    let new : HasStack v w t l i (K ∷ []) = record {
+      still = set.still;
+      root = K;
+      from = from;
+      order = [];
+      walk = walk_starts (sides v.structure) (state_of v w i.log) K is_end;
+      entered = λ k m. elim m [ inl q ↦ ap (visit_of v t) (sym q) ∙ set.here | inr n ↦ absurd n ];
+      on_stack = λ k m. elim (cases_eq k K) [ inl q ↦ inl (sym q) | inr ne ↦ absurd (unseen_entered (visit_of v t k) (set.others k ne ∙ i.unseen k) m) ];
+      left = λ k m. absurd m;
+      in_order = λ k m. elim (cases_eq k K) [ inl q ↦ absurd (entered_left (visit_of v t k) (ap (visit_of v t) q ∙ set.here) m) | inr ne ↦ unseen_left (visit_of v t k) (set.others k ne ∙ i.unseen k) m ];
+    } in
+    record {
+      held = subst (VisitsHeld v) (sym only) (held, tt);
+      has = subst (HasStack v w t l i) (sym (ap (stack_of v) only)) new;
+    }
+
+-- where the left side's end is an atom, there is nothing to walk over
+pub atom_walked : (v : Shown) (w : Contents) (l : ℕ) (i : IsWalkable v w l) (c : ℕ) → ends i.log (Node l) ≡ Atom c → IsWalkedOff v w w l i
+atom_walked v w l i c e = record {
+  still = still_same w;
+  empty = i.empty;
+  order = [];
+  ordered = tt;
+  below = subst (Below []) (sym e) tt;
+  reached = λ k m. absurd m;
+  done = λ root n k q r. no_node root (sym e ∙ q);
+  left = λ k m. absurd m;
+  in_order = λ k m. unseen_left (visit_of v w k) (i.unseen k) m;
+  unseen = λ k m. i.unseen k;
+}
+  where
+    no_node : {A : Type 0} (k : ℕ) → Atom c ≡ Node k → A
+    no_node k q = cc
+
+-- nothing was popped
+pub none_popped : (t u : Contents) (o : Option Place) → MatchOption o ((t.visits ≡ []) × (u.visits ≡ [])) (λ p. t.visits ≡ u.visits ++ p ∷ []) → ((p : Place) → o ≡ Some p → ⊥) → (t.visits ≡ []) × (u.visits ≡ [])
+none_popped t u None m n = m
+none_popped t u (Some p) m n = absurd (n p refl)
+
+-- and else it ends when the stack is empty
+pub walked_off : (v : Shown) (w t u : Contents) (l : ℕ) (i : IsWalkable v w l) → HasWalked v w t l i → u ≡ record t { visits = u.visits } → t.visits ≡ [] → u.visits ≡ [] → IsWalkedOff v w u l i
+walked_off v w t u l i h e none empty =
+    let has = stack_moved v w t u l i [] u.visits (subst (HasStack v w t l i) (ap (stack_of v) none) h.has) e in
+    let s = state_of v w i.log in
+    let done : (n k : ℕ) → ReachedIn (sides v.structure) s has.root n k → IsIn has.order k = walk_done (sides v.structure) s has.root has.order has.walk in
+    record {
+      still = has.still;
+      empty = empty;
+      order = has.order;
+      ordered = has.walk.ordered;
+      below = subst (Below has.order) (sym has.from) (done 0 has.root refl);
+      reached = λ k m. (let r = has.walk.reached k (inl m) in (has.root, r.0, has.from, r.1));
+      done = λ root n k q r. done n k (subst (λ z. ReachedIn (sides v.structure) s z n k) (one_node root has.root (sym q ∙ has.from)) r);
+      left = has.left;
+      in_order = has.in_order;
+      unseen = λ k m. is_unseen (visit_of v u k) (λ q. m (has.in_order k q)) (λ q. absurd (has.on_stack k q));
+    }
+  where
+    one_node : (j k : ℕ) → Node j ≡ Node k → j ≡ k
+    one_node j k q = cc
+
+-- with each turn less is left to visit
+pub turn_falls : (v : Shown) → IsShown v → (t u x : Contents) (top : Place) → IsHeld v top.block top.offset → visit_of v u (key v top) ≡ visit.Entered → u ≡ record t { visits = u.visits } → t.visits ≡ u.visits ++ top ∷ []
+    → HasLeft v u x (key v top) ⊎ HasEntered v u x top → total (unseen_of v x) (upto (2 * length v.structure)) + length x.visits < total (unseen_of v t) (upto (2 * length v.structure)) + length t.visits
+turn_falls v s t u x top held now e q (inl a) =
+    let all = upto (2 * length v.structure) in
+    let same : total (unseen_of v u) all ≡ total (unseen_of v t) all = ap (λ z. total (unseen_of v z) all) e in
+    let left : total (unseen_of v x) all ≡ total (unseen_of v u) all = total_ext (unseen_of v x) (unseen_of v u) all (λ k. elim (cases_eq k (key v top)) [
+      | inl f ↦ ap (unseen_of v x) f ∙ (ap to_visit a.0.here ∙ (sym (ap to_visit now) ∙ ap (unseen_of v u) (sym f)))
+      | inr ne ↦ ap to_visit (a.0.others k ne)
+    ]) in
+    let size = ap (length {A = Place}) q ∙ length-append u.visits (top ∷ []) in
+    let kept = ap (length {A = Place}) a.1 in
+    omega (arith, same, left, size, kept)
+turn_falls v s t u x top held now e q (inr a) =
+    let p = a.2 in
+    let all = upto (2 * length v.structure) in
+    let same : total (unseen_of v u) all ≡ total (unseen_of v t) all = ap (λ z. total (unseen_of v z) all) e in
+    let change = total_change (unseen_of v x) (unseen_of v u) all (key v p) (upto_once (2 * length v.structure)) (upto_in (2 * length v.structure) (key v p) (key_below v s p a.4.0)) (λ k ne. ap to_visit (a.6.others k ne)) in
+    let was : unseen_of v u (key v p) ≡ 2 = ap to_visit (is_unseen (visit_of v u (key v p)) a.4.2 a.5) in
+    let is : unseen_of v x (key v p) ≡ 0 = ap to_visit a.6.here in
+    let size = ap (length {A = Place}) q ∙ length-append u.visits (top ∷ []) in
+    let pushed = ap (length {A = Place}) a.7 ∙ length-append u.visits (top ∷ p ∷ []) in
+    omega (arith, same, change, was, is, size, pushed)

@@ -1,0 +1,172 @@
+-- What stays while a copy is made, and what its marks say.
+use Rattle.std.proofs.Common.{◌≡◌, ℕ, suc, ◌+◌, ◌<◌, ◌⊎◌, inl, inr, Option, Some, None, List, [], ◌∷◌, ◌++◌, length, refl, sym, ap, ◌∙◌, subst, arith}
+use Rattle.std.specs.List.{sum}
+use Rattle.std.proofs.lemmas.List.{get_or_append_left, take_all}
+use Rattle.patr_model.specs.Structure.{Value, Atom, Node, Arc, Arcs, Structure, IsBelow, IsValue, arcs_of}
+use Rattle.patr_marks.specs.Machine.{Has, IsIn, NoRepeats, own, total}
+use Rattle.patr_marks.specs.Quotient.{Below}
+use Rattle.patr_marks.specs.Settled.{IsCopy, IsSparing, base, through}
+use Rattle.patr_marks.specs.Settled.{IsFinal, follow}
+use Rattle.patr_marks.specs.Sides.{IsSide, shifted, sides}
+use Rattle.patr_marks.proofs.Copy.{base_left, base_shift}
+use Rattle.patr_marks.proofs.Sides.{below_or_behind, own_left, own_right}
+use Rattle.patr_arena.specs.Blocks.{OldIsHeld}
+use Rattle.patr_arena.specs.Shown.{Shown, IsShown, IsHeld, number_of}
+use Rattle.patr_arena.specs.declared.value.Feature.{Feature}
+use Rattle.patr_arena.specs.declared.value.Ref.{Ref}
+use Rattle.patr_arena.specs.declared.value.Ref.TheVariants as ref
+use Rattle.patr_arena.proofs.Showing.{held_below}
+use Rattle.patr_scratch.specs.declared.Copied.{Copied}
+use Rattle.patr_scratch.specs.declared.Place.{Place}
+use Rattle.patr_scratch.specs.declared.Side.{Side}
+use Rattle.patr_scratch.specs.declared.Side.TheVariants as side
+use Rattle.patr_scratch.specs.declared.Visit.{Visit}
+use Rattle.patr_scratch.specs.declared.Visit.TheVariants as visit
+use Rattle.patr_scratch.specs.Contents.{Contents}
+use Rattle.patr_unify.specs.Copying.{CopiesFit, Fits, IsCopiedTo, IsEndRef, IsOld, MarkFits, copied_of, copying_by, made_of, new_nodes, ref_to, stays_free}
+use Rattle.patr_unify.specs.Deciding.{IsEndOfLeft}
+use Rattle.patr_unify.specs.Merging.{both}
+use Rattle.patr_unify.specs.Reading.{AreHeld, LinksHeld, OptionIsHeld, added_of, behind, forward_of, key, marks_in, option_at, slot_of, value_on}
+use Rattle.patr_unify.specs.Reading as reading
+use Rattle.patr_unify.specs.Walking.{AllEnd, end_value, visit_of}
+use Rattle.patr_unify.proofs.Outcomes.{follow_ext}
+
+-- the places of new nodes
+pub new_place : (v : Shown) → IsShown v → (k : ℕ) → number_of v (length v.sizes) k ≡ length v.structure + k
+new_place v s k = ap (λ n. n + k) (ap sum (take_all (length v.sizes) v.sizes (omega arith)) ∙ s.whole)
+
+-- an arc that leads to an old value
+pub old_from : (v : Shown) → IsShown v → (size : ℕ) (r : Ref) (y : Value) → Fits v size r → made_of v r ≡ y → IsBelow (length v.structure) y → IsOld v r y
+old_from v s size (ref.Atom c) y f e b = sym e
+old_from v s size (ref.Old at) y f e b = sym e
+old_from v s size (ref.New k) y f e b =
+    let low : number_of v (length v.sizes) k < length v.structure = subst (IsBelow (length v.structure)) (sym e) b in
+    let at = new_place v s k in
+    absurd (omega (arith, low, at))
+
+pub old_to : (v : Shown) (r : Ref) (y : Value) → IsOld v r y → made_of v r ≡ y
+old_to v (ref.Atom c) y h = sym h
+old_to v (ref.Old at) y h = sym h
+old_to v (ref.New k) y h = absurd h
+
+pub fits_more : (v : Shown) (size : ℕ) (r : Ref) → Fits v size r → Fits v (size + 1) r
+fits_more v size (ref.Atom c) h = h
+fits_more v size (ref.Old at) h = h
+fits_more v size (ref.New k) h = let low = h.0 in (omega (arith, low), tt)
+
+pub mark_more : (v : Shown) (size : ℕ) (o : Option Copied) → MarkFits v size o → MarkFits v (size + 1) o
+mark_more v size None h = tt
+mark_more v size (Some d) h = fits_more v size (ref_to d) h
+
+pub copied_more : (v : Shown) (size : ℕ) (o : Option Copied) (x : Value) → IsCopiedTo v size o x → IsCopiedTo v (size + 1) o x
+copied_more v size None x h = h
+copied_more v size (Some d) x h = (h.0, fits_more v size (ref_to d) h.1)
+
+-- what stays while a copy is made
+pub record IsWorked (w : Contents) (t : Contents) : Type 0 where
+  pub places : length t.places ≡ length w.places
+  pub pair_room : t.pair_room ≡ w.pair_room
+  pub visit_room : t.visit_room ≡ w.visit_room
+  pub forward : (j : ℕ) → (marks_in t j).forward ≡ (marks_in w j).forward
+  pub added : (j : ℕ) → (marks_in t j).added ≡ (marks_in w j).added
+
+module _ (v : Shown) (w t : Contents) (h : IsWorked w t) where
+  pub worked_forward : (k : ℕ) → forward_of v t k ≡ forward_of v w k
+  worked_forward k = ap (option_at v) (h.forward (slot_of (length v.structure) k))
+
+  pub worked_added : (k : ℕ) → added_of v t k ≡ added_of v w k
+  worked_added k = ap (reading.arcs_at v) (h.added (slot_of (length v.structure) k))
+
+  pub worked_both : (k : ℕ) → both v t k ≡ both v w k
+  worked_both k = ap (λ es. own (sides v.structure) k ++ es) (worked_added k)
+
+  pub worked_held : AreHeld v w → AreHeld v t
+  worked_held a = record {
+    room = omega (arith, h.places, a.room);
+    forwards = λ j. subst (OptionIsHeld v) (sym (h.forward j)) (a.forwards j);
+    added = λ j. subst (LinksHeld v) (sym (h.added j)) (a.added j);
+  }
+
+  pub worked_end : (x : Value) → end_value v t x ≡ end_value v w x
+  worked_end x = ap (λ n. follow n (forward_of v t) x) h.pair_room ∙ follow_ext w.pair_room (forward_of v t) (forward_of v w) x worked_forward
+
+  pub worked_ends : AllEnd v w → AllEnd v t
+  worked_ends all x = subst (IsFinal (forward_of v t)) (sym (worked_end x)) (final_ext (forward_of v t) (forward_of v w) (end_value v w x) worked_forward (all x))
+    where
+      final_ext : (f g : ℕ → Option Value) (y : Value) → ((k : ℕ) → f k ≡ g k) → IsFinal g y → IsFinal f y
+      final_ext f g (Atom c) e i = tt
+      final_ext f g (Node k) e i = e k ∙ i
+
+-- each of the list has a lower rank than those behind it
+abbrev pub IsFalling : (ℕ → ℕ) → List ℕ → Type 0
+IsFalling rank [] = Unit {0}
+IsFalling rank (k ∷ ks) = ((j : ℕ) → IsIn ks j → rank k < rank j) × IsFalling rank ks
+
+pub falling_once : (rank : ℕ → ℕ) (ks : List ℕ) → IsFalling rank ks → NoRepeats ks
+falling_once rank [] h = tt
+falling_once rank (k ∷ ks) h = ((λ n. let low = h.0 k n in absurd (omega (arith, low))), falling_once rank ks h.1)
+
+-- what was copied, and what is on the stack
+pub record HasCopied (v : Shown) (w : Contents) (t : Contents) (l : ℕ) (r : Value) (block : List (List Feature)) (nodes : ℕ) (arcs : ℕ) (stack : List ℕ) : Type 0 where
+  pub still : IsWorked w t
+  pub rank : ℕ → ℕ
+  pub falls : (j k a : ℕ) (x : Value) → IsEndOfLeft v w l j → Has (both v w j) a x → end_value v w x ≡ Node k → rank k < rank j
+  pub ks : List ℕ
+  pub value : ℕ → Value
+  pub copy : IsCopy (IsSide v.structure l r) (copying_by v w) ks (record { value = value; new = new_nodes v block })
+  pub sparing : IsSparing (copying_by v w) ks (record { value = value; new = new_nodes v block })
+  pub once : NoRepeats ks
+  pub ends : (k : ℕ) → IsIn stack k ⊎ IsIn ks k → IsEndOfLeft v w l k
+  pub apart : (k : ℕ) → IsIn stack k → IsIn ks k → ⊥
+  pub falling : IsFalling rank stack
+  pub root : (k : ℕ) → end_value v w (Node l) ≡ Node k → IsIn stack k ⊎ IsIn ks k
+  pub entered : (k : ℕ) → IsIn stack k ⊎ IsIn ks k → visit_of v t k ≡ visit.Entered
+  pub back : (k : ℕ) → visit_of v t k ≡ visit.Entered → IsIn stack k ⊎ IsIn ks k
+  pub others : (k : ℕ) → (visit_of v t k ≡ visit.Entered) ⊎ (visit_of v t k ≡ visit_of v w k)
+  pub marked : (k : ℕ) → IsIn ks k → IsCopiedTo v (length block) (copied_of v t k) (value k)
+  pub fits : CopiesFit v (length block) t
+  pub old : OldIsHeld v block
+  pub nodes_are : nodes ≡ length ks
+  pub arcs_are : arcs ≡ total (λ k. length (arcs_of (v.structure ++ new_nodes v block) (value k))) ks
+
+-- an end's copy, by its mark
+pub ref_value : (v : Shown) (t : Contents) (size : ℕ) (value : ℕ → Value) (ks : List ℕ) (x : Value) (r : Ref) → ((k : ℕ) → IsIn ks k → IsCopiedTo v size (copied_of v t k) (value k)) → Below ks x → IsEndRef v t x r
+    → (made_of v r ≡ through value x) × Fits v size r
+ref_value v t size value ks (Atom c) r m b e = subst (λ q. (made_of v q ≡ Atom c) × Fits v size q) (sym e) (refl, (tt, tt))
+ref_value v t size value ks (Node k) r m b e = go (copied_of v t k) refl (m k b) e
+  where
+    go : (o : Option Copied) → copied_of v t k ≡ o → IsCopiedTo v size o (value k) → ((d : Copied) → copied_of v t k ≡ Some d → r ≡ ref_to d) → (made_of v r ≡ value k) × Fits v size r
+    go None q h f = absurd h
+    go (Some d) q h f = subst (λ z. (made_of v z ≡ value k) × Fits v size z) (sym (f d q)) h
+
+-- arcs of old nodes, and of a longer list
+pub arcs_longer : (G N : Structure) (x : Value) → IsValue G x → arcs_of (G ++ N) x ≡ arcs_of G x
+arcs_longer G N (Atom c) h = refl
+arcs_longer G N (Node k) h = get_or_append_left G N [] k h
+
+pub base_arcs : (S : Structure) (k : ℕ) → k < length S + length S → length (arcs_of S (base (length S) (Node k))) ≡ length (own (sides S) k)
+base_arcs S k h = elim (below_or_behind (length S) k) [
+  | inl b ↦ ap (λ x. length {A = Arc} (arcs_of S x)) (base_left (length S) (Node k) b) ∙ ap (length {A = Arc}) (sym (own_left S k b))
+  | inr b ↦
+      ap (λ j. length {A = Arc} (arcs_of S (base (length S) (Node j)))) b.1 ∙ (ap (λ x. length {A = Arc} (arcs_of S x)) (base_shift (length S) (Node b.0))
+      ∙ (sym (shifted_size (length S) (own S b.0)) ∙ (ap (length {A = Arc}) (sym (own_right S b.0)) ∙ ap (λ j. length {A = Arc} (own (sides S) j)) (sym b.1))))
+]
+  where
+    shifted_size : (n : ℕ) (es : Arcs) → length (shifted n es) ≡ length es
+    shifted_size n [] = refl
+    shifted_size n (e ∷ es) = ap suc (shifted_size n es)
+
+pub base_key : (v : Shown) (p : Place) → IsShown v → IsHeld v p.block p.offset → base (length v.structure) (Node (key v p)) ≡ Node (number_of v p.block p.offset)
+base_key v p s h = go p.side
+  where
+    go : (d : Side) → base (length v.structure) (Node (behind d (length v.structure) (number_of v p.block p.offset))) ≡ Node (number_of v p.block p.offset)
+    go side.Left = base_left (length v.structure) (Node (number_of v p.block p.offset)) (held_below v s p.block p.offset h)
+    go side.Right = base_shift (length v.structure) (Node (number_of v p.block p.offset))
+
+pub left_or : (o : Option Value) (x y : Visit) → x ≡ visit.Entered → y ≡ visit.Left → stays_free o x ≡ stays_free o y
+left_or None visit.Unseen y e f = cc
+left_or None visit.Entered visit.Unseen e f = cc
+left_or None visit.Entered visit.Entered e f = refl
+left_or None visit.Entered visit.Left e f = refl
+left_or None visit.Left y e f = cc
+left_or (Some z) x y e f = refl

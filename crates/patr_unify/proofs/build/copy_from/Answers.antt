@@ -1,0 +1,152 @@
+use Rattle.std.proofs.Common.{◌∙◌, ◌∷◌, ◌++◌, [], sym, ap, subst}
+use Rattle.patr_unify.specs.Walking.{VisitsHeld, stack_of}
+use Rattle.patr_unify.proofs.Worked.{HasCopied, worked_ends, worked_held}
+use Rattle.patr_unify.proofs.CopyLoop.{copied_moved, going_falls}
+use Rattle.patr_unify.proofs.Turning.{at_top, finished, first_room, gone_held, starts, top_room, turned}
+use Rattle.patr_unify.proofs.Walked.{held_popped, none_popped}
+use Rattle.patr_unify.proofs.build.copy_from.Goals as goal
+
+pub enter-requires-clause-room : goal.enter-requires-clause-room
+enter-requires-clause-room g c =
+    let v = g.N.Nodes.shown c.args.nodes.now in
+    let s = g.met.N.Nodes.lawful c.args.nodes.now in
+    let w = c.args.scratch.now in
+    let q = c.requires.settled in
+    first_room v s w q.0 q.1 q.2 q.3 q.4
+
+pub loop-top-init : goal.loop-top-init
+loop-top-init g c =
+    let v = g.N.Nodes.shown c.args.nodes.now in
+    let s = g.met.N.Nodes.lawful c.args.nodes.now in
+    let w = c.args.scratch.now in
+    let q = c.requires.settled in
+    let t = c.enter.new.scratch in
+    let only = c.enter.ensures.pushed ∙ ap (λ ps. ps ++ c.args.root ∷ []) q.4.no_visits in
+    record {
+      held = subst (VisitsHeld v) (sym only) (c.requires.root, tt);
+      copied = λ l p r hl set from. subst (λ b. HasCopied v w t l r b 0 0 (stack_of v t.visits)) (sym c.new.ensures) (starts v s w l p r hl set t c.args.root from c.enter.ensures.visited c.enter.ensures.pushed);
+    }
+
+pub go_on-requires-clause-top : goal.go_on-requires-clause-top
+go_on-requires-clause-top g c =
+    let v = g.N.Nodes.shown c.args.nodes.now in
+    let s = g.met.N.Nodes.lawful c.args.nodes.now in
+    let w = c.args.scratch.now in
+    let t = c.loop-top.scratch in
+    let u = c.pop_visit.new.self in
+    let d = c.loop-top.draft in
+    let popped = held_popped v u.visits c.in-Some.top (subst (VisitsHeld v) c.in-Some.ensures.last c.loop-top.invariant.held) in
+    popped.1
+
+pub go_on-requires-clause-held : goal.go_on-requires-clause-held
+go_on-requires-clause-held g c =
+    let v = g.N.Nodes.shown c.args.nodes.now in
+    let s = g.met.N.Nodes.lawful c.args.nodes.now in
+    let w = c.args.scratch.now in
+    let q = c.requires.settled in
+    let t = c.loop-top.scratch in
+    let u = c.pop_visit.new.self in
+    let d = c.loop-top.draft in
+    let popped = held_popped v u.visits c.in-Some.top (subst (VisitsHeld v) c.in-Some.ensures.last c.loop-top.invariant.held) in
+    let has = at_top v s w q.0 q.1 q.2 q.3 q.4 t u c.in-Some.top d.block d.nodes d.arcs (c.loop-top.invariant.copied q.0 q.1 q.2 q.3 q.4 q.5) c.in-Some.ensures.rest c.in-Some.ensures.last in
+    worked_held v w u has.still q.4.held
+
+pub go_on-requires-clause-ending : goal.go_on-requires-clause-ending
+go_on-requires-clause-ending g c =
+    let v = g.N.Nodes.shown c.args.nodes.now in
+    let s = g.met.N.Nodes.lawful c.args.nodes.now in
+    let w = c.args.scratch.now in
+    let q = c.requires.settled in
+    let t = c.loop-top.scratch in
+    let u = c.pop_visit.new.self in
+    let d = c.loop-top.draft in
+    let popped = held_popped v u.visits c.in-Some.top (subst (VisitsHeld v) c.in-Some.ensures.last c.loop-top.invariant.held) in
+    let has = at_top v s w q.0 q.1 q.2 q.3 q.4 t u c.in-Some.top d.block d.nodes d.arcs (c.loop-top.invariant.copied q.0 q.1 q.2 q.3 q.4 q.5) c.in-Some.ensures.rest c.in-Some.ensures.last in
+    worked_ends v w u has.still q.4.ending
+
+pub go_on-requires-clause-copies : goal.go_on-requires-clause-copies
+go_on-requires-clause-copies g c =
+    let v = g.N.Nodes.shown c.args.nodes.now in
+    let s = g.met.N.Nodes.lawful c.args.nodes.now in
+    let w = c.args.scratch.now in
+    let q = c.requires.settled in
+    let t = c.loop-top.scratch in
+    let u = c.pop_visit.new.self in
+    let d = c.loop-top.draft in
+    let popped = held_popped v u.visits c.in-Some.top (subst (VisitsHeld v) c.in-Some.ensures.last c.loop-top.invariant.held) in
+    let has = at_top v s w q.0 q.1 q.2 q.3 q.4 t u c.in-Some.top d.block d.nodes d.arcs (c.loop-top.invariant.copied q.0 q.1 q.2 q.3 q.4 q.5) c.in-Some.ensures.rest c.in-Some.ensures.last in
+    has.fits
+
+pub go_on-requires-clause-room : goal.go_on-requires-clause-room
+go_on-requires-clause-room g c =
+    let v = g.N.Nodes.shown c.args.nodes.now in
+    let s = g.met.N.Nodes.lawful c.args.nodes.now in
+    let w = c.args.scratch.now in
+    let q = c.requires.settled in
+    let t = c.loop-top.scratch in
+    let u = c.pop_visit.new.self in
+    let d = c.loop-top.draft in
+    let popped = held_popped v u.visits c.in-Some.top (subst (VisitsHeld v) c.in-Some.ensures.last c.loop-top.invariant.held) in
+    let has = at_top v s w q.0 q.1 q.2 q.3 q.4 t u c.in-Some.top d.block d.nodes d.arcs (c.loop-top.invariant.copied q.0 q.1 q.2 q.3 q.4 q.5) c.in-Some.ensures.rest c.in-Some.ensures.last in
+    top_room v s w q.0 q.1 q.2 q.3 q.4 u c.in-Some.top d.block d.nodes d.arcs popped.1 has
+
+pub loop-top-smaller : goal.loop-top-smaller
+loop-top-smaller g c =
+    let v = g.N.Nodes.shown c.args.nodes.now in
+    let s = g.met.N.Nodes.lawful c.args.nodes.now in
+    let w = c.args.scratch.now in
+    let t = c.loop-top.scratch in
+    let u = c.pop_visit.new.self in
+    let d = c.loop-top.draft in
+    let popped = held_popped v u.visits c.in-Some.top (subst (VisitsHeld v) c.in-Some.ensures.last c.loop-top.invariant.held) in
+    going_falls v s t u c.go_on.new.scratch c.in-Some.top d c.go_on.new.draft c.in-Some.ensures.rest c.in-Some.ensures.last c.in_ok-go_on.ensures
+
+pub loop-top-preserved : goal.loop-top-preserved
+loop-top-preserved g c =
+    let v = g.N.Nodes.shown c.args.nodes.now in
+    let s = g.met.N.Nodes.lawful c.args.nodes.now in
+    let w = c.args.scratch.now in
+    let t = c.loop-top.scratch in
+    let u = c.pop_visit.new.self in
+    let d = c.loop-top.draft in
+    let popped = held_popped v u.visits c.in-Some.top (subst (VisitsHeld v) c.in-Some.ensures.last c.loop-top.invariant.held) in
+    record {
+      held = gone_held v u c.go_on.new.scratch c.in-Some.top d c.go_on.new.draft popped.1 popped.0 c.in_ok-go_on.ensures;
+      copied = λ l p r hl set from. turned v s w l p r hl set u c.go_on.new.scratch c.in-Some.top d c.go_on.new.draft popped.1
+          (at_top v s w l p r hl set t u c.in-Some.top d.block d.nodes d.arcs (c.loop-top.invariant.copied l p r hl set from) c.in-Some.ensures.rest c.in-Some.ensures.last) c.in_ok-go_on.ensures;
+    }
+
+pub end_ref-made-requires-clause-held : goal.end_ref-made-requires-clause-held
+end_ref-made-requires-clause-held g c =
+    let v = g.N.Nodes.shown c.args.nodes.now in
+    let s = g.met.N.Nodes.lawful c.args.nodes.now in
+    let w = c.args.scratch.now in
+    let q = c.requires.settled in
+    let t = c.loop-top.scratch in
+    let u = c.pop_visit.new.self in
+    let d = c.loop-top.draft in
+    let has = copied_moved v w t u q.0 q.2 d.block d.nodes d.arcs (stack_of v t.visits) u.visits (c.loop-top.invariant.copied q.0 q.1 q.2 q.3 q.4 q.5) c.pop_visit.ensures.rest in
+    worked_held v w u has.still q.4.held
+
+pub end_ref-made-requires-clause-ending : goal.end_ref-made-requires-clause-ending
+end_ref-made-requires-clause-ending g c =
+    let v = g.N.Nodes.shown c.args.nodes.now in
+    let s = g.met.N.Nodes.lawful c.args.nodes.now in
+    let w = c.args.scratch.now in
+    let q = c.requires.settled in
+    let t = c.loop-top.scratch in
+    let u = c.pop_visit.new.self in
+    let d = c.loop-top.draft in
+    let has = copied_moved v w t u q.0 q.2 d.block d.nodes d.arcs (stack_of v t.visits) u.visits (c.loop-top.invariant.copied q.0 q.1 q.2 q.3 q.4 q.5) c.pop_visit.ensures.rest in
+    worked_ends v w u has.still q.4.ending
+
+pub returns : goal.returns
+returns g c l p r hl set from =
+    let v = g.N.Nodes.shown c.args.nodes.now in
+    let s = g.met.N.Nodes.lawful c.args.nodes.now in
+    let w = c.args.scratch.now in
+    let t = c.loop-top.scratch in
+    let u = c.pop_visit.new.self in
+    let d = c.loop-top.draft in
+    let none = none_popped t u c.pop_visit.result c.pop_visit.ensures.last c.in_default.not-Some in
+    finished v s w l p r hl set t u c.args.root d.block d.nodes d.arcs c.end_ref-made.result from (c.loop-top.invariant.copied l p r hl set from) c.pop_visit.ensures.rest none.0 c.end_ref-made.ensures.same

@@ -1,0 +1,13 @@
+use Rattle.std.proofs.Common.{◌≡◌, length}
+use Rattle.patr_scratch.specs.Contents.{EndsOrHas, after, marks}
+use Rattle.patr_unify.specs.Reading.{link_to}
+use Rattle.patr_unify.proofs.lists.find_added.Given as goal
+
+abbrev pub invariant-loop-next : goal.invariant-loop-next
+invariant-loop-next l = record {
+  cell : EndsOrHas (marks l.scratch l.fn.side l.fn.number).added l.next;
+  rest : link_to (after (marks l.scratch l.fn.side l.fn.number).added l.next) l.attribute ≡ link_to (marks l.scratch l.fn.side l.fn.number).added l.attribute;
+}
+
+abbrev pub decreases-loop-next : goal.decreases-loop-next
+decreases-loop-next l = length (after (marks l.scratch l.fn.side l.fn.number).added l.next)

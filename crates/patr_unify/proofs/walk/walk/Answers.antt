@@ -1,0 +1,112 @@
+use Rattle.std.proofs.Common.{Bool, inl, inr, refl, ap, subst}
+use Rattle.patr_arena.specs.Shown.{number_of}
+use Rattle.patr_scratch.specs.declared.Target.TheVariants as target
+use Rattle.patr_unify.specs.Reading.{key, value_at}
+use Rattle.patr_unify.specs.Walking.{IsTurned}
+use Rattle.patr_unify.proofs.Outcomes.{log_ends}
+use Rattle.patr_unify.proofs.Walked.{at_place, atom_walked, entered_on, has_room, led_back, left_on, none_popped, root_is, root_room, still_ends, still_held, turn_falls, walked_off, walked_starts}
+use Rattle.patr_unify.proofs.walk.walk.Goals as goal
+
+pub end_of-requires-clause-ending : goal.end_of-requires-clause-ending
+end_of-requires-clause-ending g c =
+    let v = g.N.Nodes.shown c.args.nodes.now in
+    log_ends v c.args.scratch.now c.requires.start.log c.requires.start.has_log c.requires.start.short (value_at v c.left_target.result)
+
+pub returns-in_default : goal.returns-in_default
+returns-in_default g c i =
+    let v = g.N.Nodes.shown c.args.nodes.now in
+    let w = c.args.scratch.now in
+    let l = number_of v c.args.left.block c.args.left.offset in
+    atom_walked v w l i c.in_default.field-0 (root_is v w l i c.left_target.result (target.Atom c.in_default.field-0) (ap (value_at v) c.left_target.ensures) c.in_default.ensures).0
+
+pub enter-requires-clause-room : goal.enter-requires-clause-room
+enter-requires-clause-room g c =
+    let v = g.N.Nodes.shown c.args.nodes.now in
+    let w = c.args.scratch.now in
+    let l = number_of v c.args.left.block c.args.left.offset in
+    let i = c.requires.start in
+    root_room v w l i (key v c.in-Place.root) (root_is v w l i c.left_target.result (target.Place c.in-Place.root) (ap (value_at v) c.left_target.ensures) c.in-Place.ensures).0
+
+pub loop-top-init : goal.loop-top-init
+loop-top-init g c i =
+    let v = g.N.Nodes.shown c.args.nodes.now in
+    let w = c.args.scratch.now in
+    let l = number_of v c.args.left.block c.args.left.offset in
+    let root = root_is v w l i c.left_target.result (target.Place c.in-Place.root) (ap (value_at v) c.left_target.ensures) c.in-Place.ensures in
+    walked_starts v w c.enter.new.scratch l i c.in-Place.root c.in-Place.ensures.held root.0 root.1 c.enter.ensures.visited c.enter.ensures.pushed
+
+pub go_on-requires-clause-top : goal.go_on-requires-clause-top
+go_on-requires-clause-top g c =
+    let v = g.N.Nodes.shown c.args.nodes.now in
+    let w = c.args.scratch.now in
+    let l = number_of v c.args.left.block c.args.left.offset in
+    let i = c.requires.start in
+    (at_place v w c.loop-top.scratch c.pop_visit.new.self l i c.in-Some.top (c.loop-top.invariant i) c.in-Some.ensures.rest c.in-Some.ensures.last).top_held
+
+pub go_on-requires-clause-held : goal.go_on-requires-clause-held
+go_on-requires-clause-held g c =
+    let v = g.N.Nodes.shown c.args.nodes.now in
+    let w = c.args.scratch.now in
+    let l = number_of v c.args.left.block c.args.left.offset in
+    let i = c.requires.start in
+    let at = at_place v w c.loop-top.scratch c.pop_visit.new.self l i c.in-Some.top (c.loop-top.invariant i) c.in-Some.ensures.rest c.in-Some.ensures.last in
+    still_held v w c.pop_visit.new.self at.has.still i.held
+
+pub go_on-requires-clause-ending : goal.go_on-requires-clause-ending
+go_on-requires-clause-ending g c =
+    let v = g.N.Nodes.shown c.args.nodes.now in
+    let w = c.args.scratch.now in
+    let l = number_of v c.args.left.block c.args.left.offset in
+    let i = c.requires.start in
+    let at = at_place v w c.loop-top.scratch c.pop_visit.new.self l i c.in-Some.top (c.loop-top.invariant i) c.in-Some.ensures.rest c.in-Some.ensures.last in
+    still_ends v w c.pop_visit.new.self l i at.has.still
+
+pub go_on-requires-clause-room : goal.go_on-requires-clause-room
+go_on-requires-clause-room g c =
+    let v = g.N.Nodes.shown c.args.nodes.now in
+    let w = c.args.scratch.now in
+    let l = number_of v c.args.left.block c.args.left.offset in
+    let i = c.requires.start in
+    let at = at_place v w c.loop-top.scratch c.pop_visit.new.self l i c.in-Some.top (c.loop-top.invariant i) c.in-Some.ensures.rest c.in-Some.ensures.last in
+    has_room v w c.pop_visit.new.self l i c.in-Some.top at
+
+pub returns-then-not-go_on : goal.returns-then-not-go_on
+returns-then-not-go_on g c i =
+    let v = g.N.Nodes.shown c.args.nodes.now in
+    let w = c.args.scratch.now in
+    let t = c.pop_visit.new.self in
+    let l = number_of v c.args.left.block c.args.left.offset in
+    let at = at_place v w c.loop-top.scratch t l i c.in-Some.top (c.loop-top.invariant i) c.in-Some.ensures.rest c.in-Some.ensures.last in
+    led_back v w t l i c.in-Some.top at (subst (λ (b : Bool). IsTurned v t c.go_on.new.scratch c.in-Some.top b) c.if-not-go_on.true c.go_on.ensures)
+
+pub loop-top-smaller : goal.loop-top-smaller
+loop-top-smaller g c =
+    let v = g.N.Nodes.shown c.args.nodes.now in
+    let w = c.args.scratch.now in
+    let t = c.pop_visit.new.self in
+    let l = number_of v c.args.left.block c.args.left.offset in
+    let i = c.requires.start in
+    let at = at_place v w c.loop-top.scratch t l i c.in-Some.top (c.loop-top.invariant i) c.in-Some.ensures.rest c.in-Some.ensures.last in
+    turn_falls v (g.met.N.Nodes.lawful c.args.nodes.now) c.loop-top.scratch t c.go_on.new.scratch c.in-Some.top at.top_held (at.has.entered (key v c.in-Some.top) (inl refl)) c.in-Some.ensures.rest c.in-Some.ensures.last
+    (subst (λ (b : Bool). IsTurned v t c.go_on.new.scratch c.in-Some.top b) c.if-not-go_on.false c.go_on.ensures)
+
+pub loop-top-preserved : goal.loop-top-preserved
+loop-top-preserved g c i =
+    let v = g.N.Nodes.shown c.args.nodes.now in
+    let w = c.args.scratch.now in
+    let t = c.pop_visit.new.self in
+    let l = number_of v c.args.left.block c.args.left.offset in
+    let at = at_place v w c.loop-top.scratch t l i c.in-Some.top (c.loop-top.invariant i) c.in-Some.ensures.rest c.in-Some.ensures.last in
+    let turned = subst (λ (b : Bool). IsTurned v t c.go_on.new.scratch c.in-Some.top b) c.if-not-go_on.false c.go_on.ensures in
+    elim turned [
+      | inl left ↦ left_on v w t l i c.in-Some.top at c.go_on.new.scratch left
+      | inr entered ↦ entered_on v w t l i c.in-Some.top at c.go_on.new.scratch entered
+    ]
+
+pub returns : goal.returns
+returns g c i =
+    let v = g.N.Nodes.shown c.args.nodes.now in
+    let w = c.args.scratch.now in
+    let l = number_of v c.args.left.block c.args.left.offset in
+    let none = none_popped c.loop-top.scratch c.pop_visit.new.self c.pop_visit.result c.pop_visit.ensures.last c.in_default-pop_visit.not-Some in
+    walked_off v w c.loop-top.scratch c.pop_visit.new.self l i (c.loop-top.invariant i) c.pop_visit.ensures.rest none.0 none.1

@@ -1,0 +1,63 @@
+-- The count of what a value reaches.
+--     Waits          a value is in the list
+--     IsReaching     a list of nodes that are reached, where what their arcs lead to is in it or waits
+--     IsCounting     the same of a set of numbers and a list of values
+--     IsLookedAt     what a look at one value leaves
+use Rattle.std.specs.Prelude.{◌≡◌, ℕ, ◌+◌, ◌≤◌, ◌⊎◌, true, cond, nat_eq, Some, List, [], ◌∷◌, ◌++◌, length, map}
+use Rattle.std.specs.HashSet.{HashSet, contains, hash_set_len}
+use Rattle.patr_model.specs.Structure.{Value, Atom, Node, Arcs, Structure, arc, at, IsReached}
+use Rattle.patr_marks.specs.Machine.{IsIn, NoRepeats, own, total}
+use Rattle.patr_arena.specs.declared.value.Value as its
+use Rattle.patr_arena.specs.Shown.{Shown, ValueIsHeld, value_of}
+use Rattle.patr_unify.specs.Stepping.{upto}
+
+-- the value is in the list
+abbrev pub Waits : List Value → Value → Type 0
+Waits [] y = ⊥
+Waits (x ∷ xs) y = (x ≡ y) ⊎ Waits xs y
+
+-- what the arcs lead to
+abbrev pub targets : Arcs → List Value
+targets es = map (λ e. e.to) es
+
+-- what a list of values stands for
+abbrev pub values : Shown → List its.Value → List Value
+values v xs = map (value_of v) xs
+
+-- each value is an atom or a node that is there
+abbrev pub ValuesHeld : Shown → List its.Value → Type 0
+ValuesHeld v [] = Unit {0}
+ValuesHeld v (x ∷ xs) = ValueIsHeld v x × ValuesHeld v xs
+
+-- an atom, or a node that is in the one list or in the other
+abbrev pub IsNoted : List ℕ → List Value → Value → Type 0
+IsNoted ks ws (Atom c) = Unit {0}
+IsNoted ks ws (Node k) = IsIn ks k ⊎ Waits ws (Node k)
+
+-- nodes that are reached, each once; what their arcs lead to is in the list or waits
+pub record IsReaching (S : Structure) (x : Value) (ks : List ℕ) (ws : List Value) : Type 0 where
+  pub once : NoRepeats ks
+  pub reached : (k : ℕ) → IsIn ks k → IsReached S x k
+  pub waits : (y : Value) → Waits ws y → (p : List ℕ) × (at S x p ≡ Some y)
+  pub first : IsNoted ks ws x
+  pub closed : (k a : ℕ) (y : Value) → IsIn ks k → arc S (Node k) a ≡ Some y → IsNoted ks ws y
+
+module _ {Z : Type 0} where
+  -- the set has the numbers of such nodes, the values that wait are held, and the nodes have so many arcs
+  pub record IsCounting (v : Shown) (seen : HashSet ℕ Z) (x : Value) (ws : List its.Value) (arcs : ℕ) : Type 0 where
+    pub list : List ℕ
+    pub reaching : IsReaching v.structure x list (values v ws)
+    pub in_list : (k : ℕ) → contains nat_eq seen k ≡ true → IsIn list k
+    pub in_set : (k : ℕ) → IsIn list k → contains nat_eq seen k ≡ true
+    pub nodes_are : length list ≡ hash_set_len seen
+    pub arcs_are : total (λ k. length (own v.structure k)) list ≡ arcs
+
+  -- how many arcs the nodes have that the set lacks
+  abbrev pub unseen_arcs : Shown → HashSet ℕ Z → ℕ
+  unseen_arcs v seen = total (λ k. cond (contains nat_eq seen k) 0 (length (own v.structure k))) (upto (length v.structure))
+
+  -- the value was looked at: it no longer waits, and so many arcs were found
+  pub record IsLookedAt (v : Shown) (seen now : HashSet ℕ Z) (value : its.Value) (waiting rest : List its.Value) (arcs : ℕ) : Type 0 where
+    pub held : ValuesHeld v rest
+    pub counts : (x : Value) (before : ℕ) → IsCounting v seen x (waiting ++ value ∷ []) before → IsCounting v now x rest (before + arcs)
+    pub fewer : length rest + unseen_arcs v now ≤ length waiting + unseen_arcs v seen

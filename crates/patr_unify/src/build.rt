@@ -1,0 +1,152 @@
+//! The copy of a unifier.
+ghost use Rattle.std.specs.Prelude.{◌≡◌, ◌<◌, ◌∷◌, ◌++◌, [], ℕ, List, IfOk, length};
+ghost use Rattle.patr_model.specs.Structure.{Node};
+ghost use Rattle.patr_arena.specs.Shown.{IsHeld, number_of};
+ghost use Rattle.patr_unify.specs.Copying.{CopiesFit, HasFinished, HasGoneOn, HasRoomToEnter, IsCopyMarked, IsMade, copied_of};
+ghost use Rattle.patr_unify.specs.Deciding.{IsSettledFor};
+ghost use Rattle.patr_unify.specs.Reading.{AreHeld, key};
+ghost use Rattle.patr_unify.specs.Walking.{AllEnd, end_value};
+
+use crate::draft::Draft;
+use crate::ends::{address, end_of, number};
+use crate::gather::gather;
+use crate::keep::{end_ref, may_stay};
+use crate::walk::{enter, left_target, next_end};
+use patr_arena::{Addr, Block, Id, Memory, Nodes, Ref};
+use patr_scratch::{Copied, Place, Scratch, Target, Visit};
+use std::alloc::{AllocError, Global};
+
+/// A unifier.
+#[derive(Drop)]
+pub struct Made {
+    /// Its new nodes.
+    pub block: Block,
+    /// Its root: `Old` where the whole left side stays as it is.
+    pub root: Ref,
+    /// How many nodes are reached from the root.
+    pub nodes: u64,
+    /// How many arcs these nodes have.
+    pub arcs: u64,
+}
+
+/// Says what the place was copied to.
+fn mark_copy<N: Nodes>(nodes: &N, place: Place, made: Copied, scratch: &mut Scratch)
+    requires place { IsHeld (N.shown nodes.now) place.block place.offset }
+    requires held { AreHeld (N.shown nodes.now) scratch.old }
+    ensures { IsCopyMarked (N.shown nodes.now) scratch.old scratch.new (key (N.shown nodes.now) place) made }
+{
+    scratch.set_copy(place.side, number(nodes, place), made);
+}
+
+/// Copies an end all of whose arcs lead to ends that were copied: it stays, or it gets a new node.
+fn finish<N: Nodes>(
+    alloc: Global,
+    nodes: &N,
+    top: Place,
+    scratch: &mut Scratch,
+    draft: &mut Draft,
+) -> Result<(), Memory>
+    requires top { IsHeld (N.shown nodes.now) top.block top.offset }
+    requires held { AreHeld (N.shown nodes.now) scratch.old }
+    requires ending { AllEnd (N.shown nodes.now) scratch.old }
+    requires copies { CopiesFit (N.shown nodes.now) (length draft.old.block) scratch.old }
+    ensures { IfOk result (λ _. HasFinished (N.shown nodes.now) scratch.old scratch.new top draft.old draft.new) }
+{
+    draft.nodes = draft.nodes.checked_add(1).ok_or(AllocError)?;
+    if may_stay(nodes, scratch, top) {
+        let count = nodes.arcs(address(top)).len();
+        draft.arcs = draft.arcs.checked_add(count as u64).ok_or(AllocError)?;
+        let kept = Copied::Old {
+            block: top.block,
+            offset: top.offset,
+        };
+        mark_copy(nodes, top, kept, scratch);
+        return Ok(());
+    }
+    let arcs = gather(alloc, nodes, scratch, top)?;
+    draft.arcs = draft.arcs.checked_add(arcs.len() as u64).ok_or(AllocError)?;
+    let offset = draft.block.add(&arcs)?;
+    mark_copy(nodes, top, Copied::New(offset), scratch);
+    Ok(())
+}
+
+/// Goes on from the place that was the top of the stack: to an end of its arcs that was not entered, or, where there is
+/// none, to its copy.
+fn go_on<N: Nodes>(
+    alloc: Global,
+    nodes: &N,
+    top: Place,
+    scratch: &mut Scratch,
+    draft: &mut Draft,
+) -> Result<(), Memory>
+    requires top { IsHeld (N.shown nodes.now) top.block top.offset }
+    requires held { AreHeld (N.shown nodes.now) scratch.old }
+    requires ending { AllEnd (N.shown nodes.now) scratch.old }
+    requires copies { CopiesFit (N.shown nodes.now) (length draft.old.block) scratch.old }
+    requires room { HasRoomToEnter (N.shown nodes.now) scratch.old (key (N.shown nodes.now) top) }
+    ensures { IfOk result (λ _. HasGoneOn (N.shown nodes.now) scratch.old scratch.new top draft.old draft.new) }
+{
+    match next_end(nodes, scratch, top, Visit::Entered) {
+        Some(place) => {
+            scratch.push_visit(top);
+            enter(nodes, place, scratch);
+            Ok(())
+        }
+        None => finish(alloc, nodes, top, scratch, draft),
+    }
+}
+
+/// Copies all ends that arcs of ends lead to from the root, depth first.
+fn copy_from<N: Nodes>(
+    alloc: Global,
+    nodes: &N,
+    root: Place,
+    scratch: &mut Scratch,
+) -> Result<Made, Memory>
+    requires root { IsHeld (N.shown nodes.now) root.block root.offset }
+    requires settled { (l : ℕ) × (p : List ℕ) × (r : _) × (l < length (N.shown nodes.now).structure) × IsSettledFor (N.shown nodes.now) scratch.old l p r × (end_value (N.shown nodes.now) scratch.old (Node l) ≡ Node (key (N.shown nodes.now) root)) }
+    ensures { (l : ℕ) (p : List ℕ) (r : _) → l < length (N.shown nodes.now).structure → IsSettledFor (N.shown nodes.now) scratch.old l p r → end_value (N.shown nodes.now) scratch.old (Node l) ≡ Node (key (N.shown nodes.now) root) → IfOk result (λ made. IsMade (N.shown nodes.now) l p r made.block made.root made.nodes made.arcs) }
+{
+    let mut draft = Draft {
+        block: Block::new(alloc),
+        nodes: 0,
+        arcs: 0,
+    };
+    enter(nodes, root, scratch);
+    while let Some(top) = scratch.pop_visit() {
+        go_on(alloc, nodes, top, scratch, &mut draft)?;
+    }
+    let made = end_ref(nodes, scratch, Target::Place(root));
+    Ok(Made {
+        block: draft.block,
+        root: made,
+        nodes: draft.nodes,
+        arcs: draft.arcs,
+    })
+}
+
+/// Makes the unifier that the marks in `scratch` stand for, after a [`crate::decide`] that answered `Solvable` for this
+/// `left`. The unifier's nodes are those that were there and, behind them, its block. Fails for want of memory alone.
+///
+/// An untouched node keeps its place: one that no other node was made one with, below which there is none either, and,
+/// on the right side, whose place is no node of the left side. Each node of the block is reached from the root.
+pub fn copy<N: Nodes>(
+    alloc: Global,
+    nodes: &N,
+    left: Addr,
+    scratch: &mut Scratch,
+) -> Result<Made, Memory>
+    requires left { IsHeld (N.shown nodes.now) left.block left.offset }
+    requires settled { (p : List ℕ) × (r : _) × IsSettledFor (N.shown nodes.now) scratch.old (number_of (N.shown nodes.now) left.block left.offset) p r }
+    ensures { (p : List ℕ) (r : _) → IsSettledFor (N.shown nodes.now) scratch.old (number_of (N.shown nodes.now) left.block left.offset) p r → IfOk result (λ made. IsMade (N.shown nodes.now) (number_of (N.shown nodes.now) left.block left.offset) p r made.block made.root made.nodes made.arcs) }
+{
+    match end_of(nodes, scratch, left_target(left)) {
+        Target::Atom(atom) => Ok(Made {
+            block: Block::new(alloc),
+            root: Ref::Atom(Id(atom)),
+            nodes: 0,
+            arcs: 0,
+        }),
+        Target::Place(root) => copy_from(alloc, nodes, root, scratch),
+    }
+}
