@@ -1,0 +1,285 @@
+-- The nodes that have numbers.
+use Rattle.std.proofs.Common.{◌≡◌, ℕ, zero, suc, ◌+◌, ◌<◌, ◌≤◌, Bool, true, false, cond, not, ◌||◌, nat_eq, nat_lt, ltb-true, ltb-false, lt-ltb, true≢false, List, [], ◌∷◌, ◌++◌, append-nil, flat_map, length, take, drop, get_or, Option, Some, None, option_map, is_some, slice_get, refl, sym, ap, ◌∙◌, subst, arith}
+use Rattle.std.proofs.lemmas.List.{append_assoc, map-append, take_more, drop_more, take-append-drop}
+use Rattle.std.specs.HashSet.{HashSet, contains}
+use Rattle.std.specs.List.{AllByRecursion, list_any, position, position_or_len}
+use Rattle.patr_model.specs.Structure.{Value, Structure, IsStructure, IsValue}
+use Rattle.patr_model.specs.Stack.{Event, OfAtom, OfAgain, Opens, OfArc, Closes, event_text, events, events_of, met_again, opened}
+use Rattle.patr_model.specs.Text.{Look, Outline, Branches, Leaf, Again, Begun, Done, Branch, canonical, from_one, kept, number_in, outline, renumbered, renumbered_all, place_in, repeats, tree_of, visits}
+use Rattle.patr_model.specs.Laws.{EventsTell}
+use Rattle.patr_model.proofs.Keyed as keyed
+use Rattle.patr_model.proofs.Numbered.{tree_numbers}
+use Rattle.patr_model.proofs.Places.{place_longer, place_there}
+use Rattle.patr_model.proofs.Placed.{outline_is, walk_is_whole}
+use Rattle.patr_model.proofs.Rebuilt.{AreNumbers, AreNumbersOf}
+use Rattle.patr_model.proofs.Stack.{walks_by_stack}
+use Rattle.patr_model.proofs.Maps.{some_inj}
+use Rattle.patr_canon.specs.declared.event.Event as its
+use Rattle.patr_canon.specs.Numbers.{AreOnce, EventsAreNumbered, again_of, number_by, opened_of}
+use Rattle.patr_canon.specs.Walks.{IsDone, event_seen, events_seen}
+use Rattle.patr_canon.proofs.Walks.{done_more}
+
+-- the one node, or none
+abbrev listed : Option ℕ → List ℕ
+listed None = []
+listed (Some n) = n ∷ []
+
+again_more : (es : List Event) (e : Event) → met_again (es ++ e ∷ []) ≡ met_again es ++ listed (again_of e)
+again_more [] (OfAtom c) = refl
+again_more [] (OfAgain n) = refl
+again_more [] (Opens n) = refl
+again_more [] (OfArc first a) = refl
+again_more [] Closes = refl
+again_more (OfAtom c ∷ es) e = again_more es e
+again_more (OfAgain n ∷ es) e = ap (λ ns. n ∷ ns) (again_more es e)
+again_more (Opens n ∷ es) e = again_more es e
+again_more (OfArc first a ∷ es) e = again_more es e
+again_more (Closes ∷ es) e = again_more es e
+
+opened_more : (es : List Event) (e : Event) → opened (es ++ e ∷ []) ≡ opened es ++ listed (opened_of e)
+opened_more [] (OfAtom c) = refl
+opened_more [] (OfAgain n) = refl
+opened_more [] (Opens n) = refl
+opened_more [] (OfArc first a) = refl
+opened_more [] Closes = refl
+opened_more (OfAtom c ∷ es) e = opened_more es e
+opened_more (OfAgain n ∷ es) e = opened_more es e
+opened_more (Opens n ∷ es) e = ap (λ ns. n ∷ ns) (opened_more es e)
+opened_more (OfArc first a ∷ es) e = opened_more es e
+opened_more (Closes ∷ es) e = opened_more es e
+
+opened_append : (es fs : List Event) → opened (es ++ fs) ≡ opened es ++ opened fs
+opened_append [] fs = refl
+opened_append (OfAtom c ∷ es) fs = opened_append es fs
+opened_append (OfAgain n ∷ es) fs = opened_append es fs
+opened_append (Opens n ∷ es) fs = ap (λ ns. n ∷ ns) (opened_append es fs)
+opened_append (OfArc first a ∷ es) fs = opened_append es fs
+opened_append (Closes ∷ es) fs = opened_append es fs
+
+seen_more : (es : List its.Event) (i : ℕ) (d : its.Event) → i < length es → events_seen (take (i + 1) es) ≡ events_seen (take i es) ++ event_seen (get_or es i d) ∷ []
+seen_more es i d h = ap events_seen (take_more es i d h) ∙ map-append event_seen (take i es) (get_or es i d ∷ [])
+
+again_taken : (es : List its.Event) (i : ℕ) (d : its.Event) (o : Option ℕ) → i < length es → o ≡ again_of (event_seen (get_or es i d)) → met_again (events_seen (take (i + 1) es)) ≡ met_again (events_seen (take i es)) ++ listed o
+again_taken es i d o h e = ap met_again (seen_more es i d h) ∙ (again_more (events_seen (take i es)) (event_seen (get_or es i d)) ∙ ap (λ u. met_again (events_seen (take i es)) ++ listed u) (sym e))
+
+opened_taken : (es : List its.Event) (i : ℕ) (d : its.Event) (o : Option ℕ) → i < length es → o ≡ opened_of (event_seen (get_or es i d)) → opened (events_seen (take (i + 1) es)) ≡ opened (events_seen (take i es)) ++ listed o
+opened_taken es i d o h e = ap opened (seen_more es i d h) ∙ (opened_more (events_seen (take i es)) (event_seen (get_or es i d)) ∙ ap (λ u. opened (events_seen (take i es)) ++ listed u) (sym e))
+
+-- ---- the nodes that are met again
+
+pub again_kept : {S : Type 0} (es : List its.Event) (i : ℕ) (d : its.Event) (set : HashSet ℕ S) → i < length es → None ≡ again_of (event_seen (get_or es i d)) → IsDone set (met_again (events_seen (take i es)))
+    → IsDone set (met_again (events_seen (take (i + 1) es)))
+again_kept es i d set h e done = subst (IsDone set) (sym (again_taken es i d None h e ∙ append-nil (met_again (events_seen (take i es))))) done
+
+pub again_added : {S : Type 0} (es : List its.Event) (i : ℕ) (d : its.Event) (set new : HashSet ℕ S) (n : ℕ) → i < length es → Some n ≡ again_of (event_seen (get_or es i d)) → IsDone set (met_again (events_seen (take i es)))
+    → ((q : ℕ) → contains nat_eq new q ≡ cond (nat_eq n q) true (contains nat_eq set q)) → IsDone new (met_again (events_seen (take (i + 1) es)))
+again_added es i d set new n h e done updates = subst (IsDone new) (sym (again_taken es i d (Some n) h e)) (done_more set new (met_again (events_seen (take i es))) n done updates)
+
+-- ---- the nodes that have numbers
+
+kept_more : (these ns : List ℕ) (n : ℕ) → kept these (ns ++ n ∷ []) ≡ kept these ns ++ cond (is_some (place_in these n)) (n ∷ []) []
+kept_more these [] n = go (is_some (place_in these n))
+  where
+    go : (b : Bool) → cond b (n ∷ []) [] ≡ cond b (n ∷ []) []
+    go b = refl
+kept_more these (m ∷ ns) n = go (is_some (place_in these m)) (kept_more these ns n)
+  where
+    go : (b : Bool) → kept these (ns ++ n ∷ []) ≡ kept these ns ++ cond (is_some (place_in these n)) (n ∷ []) []
+        → cond b (m ∷ kept these (ns ++ n ∷ [])) (kept these (ns ++ n ∷ [])) ≡ cond b (m ∷ kept these ns) (kept these ns) ++ cond (is_some (place_in these n)) (n ∷ []) []
+    go true e = ap (λ ks. m ∷ ks) e
+    go false e = e
+
+any_placed : (ns : List ℕ) (n : ℕ) → list_any (nat_eq n) ns ≡ is_some (place_in ns n)
+any_placed [] n = refl
+any_placed (m ∷ ns) n = go (nat_eq n m) (any_placed ns n)
+  where
+    go : (b : Bool) → list_any (nat_eq n) ns ≡ is_some (place_in ns n) → (b || list_any (nat_eq n) ns) ≡ is_some (cond b (Some 0) (option_map (λ i. suc i) (place_in ns n)))
+    go true e = refl
+    go false e = e ∙ mapped (place_in ns n)
+      where
+        mapped : (o : Option ℕ) → is_some o ≡ is_some (option_map (λ i. suc i) o)
+        mapped None = refl
+        mapped (Some i) = refl
+
+-- what is kept is among what there was
+not_kept : (these ns : List ℕ) (n : ℕ) → list_any (nat_eq n) ns ≡ false → list_any (nat_eq n) (kept these ns) ≡ false
+not_kept these [] n h = refl
+not_kept these (m ∷ ns) n h = go (is_some (place_in these m)) (nat_eq n m) refl h (not_kept these ns n)
+  where
+    go : (b : Bool) (c : Bool) → nat_eq n m ≡ c → (c || list_any (nat_eq n) ns) ≡ false → (list_any (nat_eq n) ns ≡ false → list_any (nat_eq n) (kept these ns) ≡ false) → list_any (nat_eq n) (cond b (m ∷ kept these ns) (kept these ns)) ≡ false
+    go b true e k rest = absurd (true≢false k)
+    go true false e k rest = ap (λ c. c || list_any (nat_eq n) (kept these ns)) e ∙ rest k
+    go false false e k rest = rest k
+
+module _ (these : List ℕ) (es : List its.Event) (i : ℕ) (d : its.Event) (h : i < length es) where
+  pub numbered_kept : (keys : List ℕ) → None ≡ opened_of (event_seen (get_or es i d)) → keys ≡ kept these (opened (events_seen (take i es))) → keys ≡ kept these (opened (events_seen (take (i + 1) es)))
+  numbered_kept keys e same = same ∙ ap (kept these) (sym (opened_taken es i d None h e ∙ append-nil (opened (events_seen (take i es)))))
+
+  pub numbered_left : (keys : List ℕ) (n : ℕ) → Some n ≡ opened_of (event_seen (get_or es i d)) → is_some (place_in these n) ≡ false → keys ≡ kept these (opened (events_seen (take i es)))
+      → keys ≡ kept these (opened (events_seen (take (i + 1) es)))
+  numbered_left keys n e none same =
+      same ∙ sym (ap (kept these) (opened_taken es i d (Some n) h e) ∙ (kept_more these (opened (events_seen (take i es))) n
+      ∙ (ap (λ b. kept these (opened (events_seen (take i es))) ++ cond b (n ∷ []) []) none ∙ append-nil (kept these (opened (events_seen (take i es)))))))
+
+  -- what is opened at i, and what before and behind it
+  opened_around : (n : ℕ) → Some n ≡ opened_of (event_seen (get_or es i d)) → opened (events_seen es) ≡ opened (events_seen (take i es)) ++ n ∷ opened (events_seen (drop (i + 1) es))
+  opened_around n e =
+      ap (λ xs. opened (events_seen xs)) (sym (take-append-drop i es))
+      ∙ (ap opened (map-append event_seen (take i es) (drop i es))
+      ∙ (opened_append (events_seen (take i es)) (events_seen (drop i es))
+      ∙ ap (λ xs. opened (events_seen (take i es)) ++ xs) (ap (λ xs. opened (events_seen xs)) (drop_more es i d h) ∙ first (event_seen (get_or es i d)) (events_seen (drop (i + 1) es)) e)))
+    where
+      first : (x : Event) (xs : List Event) → Some n ≡ opened_of x → opened (x ∷ xs) ≡ n ∷ opened xs
+      first (OfAtom c) xs q = cc
+      first (OfAgain m) xs q = cc
+      first (Opens m) xs q = ap (λ k. k ∷ opened xs) (sym (some_inj n m q))
+      first (OfArc f a) xs q = cc
+      first Closes xs q = cc
+
+  pub numbered_added : (keys new : List ℕ) (n : ℕ) → AreOnce (opened (events_seen es)) → Some n ≡ opened_of (event_seen (get_or es i d)) → is_some (place_in these n) ≡ true → keys ≡ kept these (opened (events_seen (take i es)))
+      → new ≡ cond (list_any (nat_eq n) keys) keys (keys ++ n ∷ []) → new ≡ kept these (opened (events_seen (take (i + 1) es)))
+  numbered_added keys new n once e there same is =
+      let before = opened (events_seen (take i es)) in
+      let no : list_any (nat_eq n) before ≡ false = any_placed before n ∙ ap is_some (once before (opened (events_seen (drop (i + 1) es))) n (opened_around n e)) in
+      is ∙ (ap (λ ks. cond (list_any (nat_eq n) ks) ks (ks ++ n ∷ [])) same
+      ∙ (ap (λ b. cond b (kept these before) (kept these before ++ n ∷ [])) (not_kept these before n no)
+      ∙ sym (ap (kept these) (opened_taken es i d (Some n) h e) ∙ (kept_more these before n ∙ ap (λ b. kept these before ++ cond b (n ∷ []) []) there))))
+
+-- ---- the place of a node
+
+pub placed_at : (ns : List ℕ) (n : ℕ) → position (nat_eq n) ns ≡ place_in ns n
+placed_at [] n = refl
+placed_at (m ∷ ns) n = go (nat_eq n m) refl (nat_lt (position_or_len (nat_eq n) ns) (length ns)) refl (placed_at ns n)
+  where
+    k : ℕ
+    k = position_or_len (nat_eq n) ns
+
+    not_less : (i j : ℕ) → j ≤ i → nat_lt i j ≡ false
+    not_less i j h = test (nat_lt i j) refl
+      where
+        test : (b : Bool) → nat_lt i j ≡ b → b ≡ false
+        test true e = let lt = ltb-true i j e in absurd (omega (arith, h, lt))
+        test false e = refl
+
+    go : (b : Bool) → nat_eq n m ≡ b → (c : Bool) → nat_lt k (length ns) ≡ c → cond (nat_lt k (length ns)) (Some k) None ≡ place_in ns n
+        → position (nat_eq n) (m ∷ ns) ≡ cond b (Some 0) (option_map (λ i. suc i) (place_in ns n))
+    go true e c f rest =
+        ap (λ b. cond (nat_lt (cond (not b) (1 + k) 0) (length (m ∷ ns))) (Some (cond (not b) (1 + k) 0)) None) e ∙ ap (λ b. cond b (Some 0) None) (lt-ltb 0 (length (m ∷ ns)) (omega arith))
+    go false e true f rest =
+        let lt = ltb-true k (length ns) f in
+        let one : 1 + k ≡ suc k = omega arith in
+        ap (λ b. cond (nat_lt (cond (not b) (1 + k) 0) (length (m ∷ ns))) (Some (cond (not b) (1 + k) 0)) None) e
+        ∙ (ap (λ b. cond b (Some (1 + k)) None) (lt-ltb (1 + k) (length (m ∷ ns)) (omega (arith, lt)))
+        ∙ (ap Some one ∙ ap (option_map (λ i. suc i)) (sym (ap (λ b. cond b (Some k) None) f) ∙ rest)))
+    go false e false f rest =
+        let le = ltb-false k (length ns) f in
+        ap (λ b. cond (nat_lt (cond (not b) (1 + k) 0) (length (m ∷ ns))) (Some (cond (not b) (1 + k) 0)) None) e
+        ∙ (ap (λ b. cond b (Some (1 + k)) None) (not_less (1 + k) (length (m ∷ ns)) (omega (arith, le))) ∙ ap (option_map (λ i. suc i)) (sym (ap (λ b. cond b (Some k) None) f) ∙ rest))
+
+-- ---- a value's events
+
+-- a visit is no later one's
+pub visits_once : (l : Look) (S : Structure) (v : Value) → IsStructure S → IsValue S v → AreOnce (opened (events (tree_of l S v)))
+visits_once l S v s p before behind n e = go (place_in before n) refl
+  where
+    all : visits (tree_of l S v) ≡ before ++ n ∷ behind
+    all = sym ((walks_by_stack.told l S v).first) ∙ e
+
+    here : (xs : List ℕ) → slice_get (xs ++ n ∷ behind) (length xs) ≡ Some n
+    here [] = refl
+    here (x ∷ xs) = here xs
+
+    go : (o : Option ℕ) → place_in before n ≡ o → o ≡ None
+    go None q = refl
+    go (Some j) q =
+        let whole = walk_is_whole l S v s p in
+        let first = whole.once (length before) n (ap (λ xs. slice_get xs (length before)) all ∙ here before) in
+        let other : place_in (visits (tree_of l S v)) n ≡ Some j = ap (λ xs. place_in xs n) all ∙ place_longer before (n ∷ behind) n j q in
+        let same = some_inj (length before) j (sym first ∙ other) in
+        let there = place_there before n j q in
+        absurd (omega (arith, same, there))
+
+from_one_some : (o : Option ℕ) → 0 < from_one o → is_some o ≡ true
+from_one_some None h = absurd (omega (arith, h))
+from_one_some (Some i) h = refl
+
+numbered_append : (ns : List ℕ) (es fs : List Event) → EventsAreNumbered ns es → EventsAreNumbered ns fs → EventsAreNumbered ns (es ++ fs)
+numbered_append ns [] fs h k = k
+numbered_append ns (e ∷ es) fs h k = (h.0, numbered_append ns es fs h.1 k)
+
+mutual
+  tree_numbered : (ns : List ℕ) (t : Outline ℕ) → AreNumbers (number_by ns) t → EventsAreNumbered ns (events t)
+  tree_numbered ns (Leaf c) h = (tt, tt)
+  tree_numbered ns (Again i) h = (from_one_some (place_in ns i) h, tt)
+  tree_numbered ns (Begun i bs) h = (tt, branches_numbered ns bs true h)
+
+  branches_numbered : (ns : List ℕ) (bs : Branches ℕ) (first : Bool) → AreNumbersOf (number_by ns) bs → EventsAreNumbered ns (events_of first bs)
+  branches_numbered ns Done first h = (tt, tt)
+  branches_numbered ns (Branch a x bs) first h = (tt, numbered_append ns (events x) (events_of false bs) (tree_numbered ns x h.0) (branches_numbered ns bs false h.1))
+
+-- numbers that a tree has stand for themselves in the renumbered one
+mutual
+  to_themselves : (f : ℕ → ℕ) (t : Outline ℕ) → AreNumbers f t → AreNumbers (λ n. n) (renumbered f t)
+  to_themselves f (Leaf c) h = tt
+  to_themselves f (Again i) h = h
+  to_themselves f (Begun i bs) h = all_to_themselves f bs h
+
+  all_to_themselves : (f : ℕ → ℕ) (bs : Branches ℕ) → AreNumbersOf f bs → AreNumbersOf (λ n. n) (renumbered_all f bs)
+  all_to_themselves f Done h = tt
+  all_to_themselves f (Branch a x bs) h = (to_themselves f x h.0, all_to_themselves f bs h.1)
+
+mutual
+  from_themselves : (f : ℕ → ℕ) (t : Outline ℕ) → AreNumbers (λ n. n) (renumbered f t) → AreNumbers f t
+  from_themselves f (Leaf c) h = tt
+  from_themselves f (Again i) h = h
+  from_themselves f (Begun i bs) h = all_from_themselves f bs h
+
+  all_from_themselves : (f : ℕ → ℕ) (bs : Branches ℕ) → AreNumbersOf (λ n. n) (renumbered_all f bs) → AreNumbersOf f bs
+  all_from_themselves f Done h = tt
+  all_from_themselves f (Branch a x bs) h = (from_themselves f x h.0, all_from_themselves f bs h.1)
+
+-- each node that stands again has a number
+pub again_numbered : (l : Look) (S : Structure) (v : Value) → IsStructure S → IsValue S v → EventsAreNumbered (kept (repeats (tree_of l S v)) (visits (tree_of l S v))) (events (tree_of l S v))
+again_numbered l S v s p =
+    let key = keyed.tree_of l S v in
+    let numbers : AreNumbers (λ n. n) (outline l S v) = subst (AreNumbers (λ n. n)) (sym (outline_is l S v s p)) (to_themselves (number_in key) key (tree_numbers l S v s p)) in
+    tree_numbered (kept (repeats (tree_of l S v)) (visits (tree_of l S v))) (tree_of l S v) (from_themselves (number_in (tree_of l S v)) (tree_of l S v) numbers)
+
+-- ---- the text of events, one after another
+
+pub all_at : (P : Event → Type 0) (es : List its.Event) (i : ℕ) (d : its.Event) → i < length es → AllByRecursion P (events_seen es) → P (event_seen (get_or es i d))
+all_at P [] i d h k = absurd (omega (arith, h))
+all_at P (e ∷ es) zero d h k = k.0
+all_at P (e ∷ es) (suc i) d h k = all_at P es i d (omega (arith, h)) k.1
+
+flat_append : (f : Event → List ℕ) (es fs : List Event) → flat_map f (es ++ fs) ≡ flat_map f es ++ flat_map f fs
+flat_append f [] fs = refl
+flat_append f (e ∷ es) fs = ap (λ t. f e ++ t) (flat_append f es fs) ∙ sym (append_assoc (f e) (flat_map f es) (flat_map f fs))
+
+pub text_more : (f : Event → List ℕ) (es : List its.Event) (i : ℕ) (d : its.Event) (text : List ℕ) → i < length es → text ≡ flat_map f (events_seen (take i es))
+    → text ++ f (event_seen (get_or es i d)) ≡ flat_map f (events_seen (take (i + 1) es))
+text_more f es i d text h e =
+    ap (λ t. t ++ f (event_seen (get_or es i d))) e
+    ∙ (ap (λ t. flat_map f (events_seen (take i es)) ++ t) (sym (append-nil (f (event_seen (get_or es i d)))))
+    ∙ (sym (flat_append f (events_seen (take i es)) (event_seen (get_or es i d) ∷ [])) ∙ ap (flat_map f) (sym (seen_more es i d h))))
+
+-- ---- what was met, where it is a value's events
+
+module _ (l : Look) (S : Structure) (v : Value) (s : IsStructure S) (p : IsValue S v) (met : List Event) (is : met ≡ events (tree_of l S v)) where
+  told : EventsTell l S v
+  told = walks_by_stack.told l S v
+
+  pub met_once : AreOnce (opened met)
+  met_once = subst (λ es. AreOnce (opened es)) (sym is) (visits_once l S v s p)
+
+  pub met_numbered : EventsAreNumbered (kept (met_again met) (opened met)) met
+  met_numbered =
+      subst (λ es. EventsAreNumbered (kept (met_again es) (opened es)) es) (sym is)
+      (subst (λ ns. EventsAreNumbered (kept ns (opened (events (tree_of l S v)))) (events (tree_of l S v))) (sym told.again)
+      (subst (λ ns. EventsAreNumbered (kept (repeats (tree_of l S v)) ns) (events (tree_of l S v))) (sym told.first) (again_numbered l S v s p)))
+
+  pub met_text : flat_map (event_text l (number_by (kept (met_again met) (opened met)))) met ≡ canonical l S v
+  met_text =
+      ap (λ es. flat_map (event_text l (number_by (kept (met_again es) (opened es)))) es) is
+      ∙ (ap (λ ns. flat_map (event_text l (number_by (kept ns (opened (events (tree_of l S v)))))) (events (tree_of l S v))) told.again
+      ∙ (ap (λ ns. flat_map (event_text l (number_by (kept (repeats (tree_of l S v)) ns))) (events (tree_of l S v))) told.first ∙ sym told.text))

@@ -1,0 +1,24 @@
+use Rattle.std.proofs.Common.{◌+◌, ◌≤◌, ℕ, length, arith}
+use Rattle.patr_arena.specs.Shown.{number_of}
+use Rattle.patr_canon.proofs.Walks.{attributes_below, enter_new, one_longer, with_close}
+use Rattle.patr_canon.proofs.walk.Walk.open.Goals as goal
+
+less : (n m : ℕ) → n + 1 ≤ m → n ≤ m
+less n m h = omega (arith, h)
+
+pub arcs_in_order-requires-clause-symbols : goal.arcs_in_order-requires-clause-symbols
+arcs_in_order-requires-clause-symbols g c =
+    let v = g.N.Nodes.shown c.args.nodes.now in
+    let s = g.met.N.Nodes.lawful c.args.nodes.now in
+    attributes_below (length c.args.look.now.symbols.now) v.structure (number_of v c.args.at.block c.args.at.offset) s.structure c.requires.spelled
+
+pub returns : goal.returns
+returns g c =
+    let v = g.N.Nodes.shown c.args.nodes.now in
+    let s = g.met.N.Nodes.lawful c.args.nodes.now in
+    record {
+      walking = λ total w. enter_new v s c.args.look.now total c.args.self.now.done c.args.at c.args.node c.in_ok-arcs.arcs.items c.args.self.now.events.items c.push.new.self.items c.args.self.now.tasks.items c.push_arcs.new.tasks.items
+          c.requires.at c.requires.node c.requires.new c.requires.spelled c.in_ok-arcs.ensures.order c.in_ok-arcs.ensures.held c.in_ok-push.ensures.items
+          (with_close c.in_ok-arcs.arcs.items c.args.node c.args.self.now.tasks.items c.push-2.new.self.items c.push_arcs.new.tasks.items c.in_ok-push-2.ensures.items c.in_ok-push_arcs.ensures) w;
+      grows = less _ _ (one_longer c.args.self.now.events.items c.push.new.self.items _ c.in_ok-push.ensures.items);
+    }
