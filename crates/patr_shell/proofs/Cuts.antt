@@ -1,7 +1,7 @@
 -- How lines are cut where the bytes come in pieces.
-use Rattle.std.proofs.Common.{◌≡◌, ℕ, zero, suc, take, nat_eq, List, [], ◌∷◌, ◌++◌, true, false, cond, refl, sym, ◌∙◌, ap, append-nil}
+use Rattle.std.proofs.Common.{◌≡◌, ◌≤◌, length, arith, ℕ, zero, suc, take, nat_eq, List, [], ◌∷◌, ◌++◌, true, false, cond, refl, sym, ◌∙◌, ap, append-nil}
 use Rattle.patr_model.specs.Session.{Cut, cut_at, without_cr, whole_lines_from, whole_lines_of, lines_by, lines_of}
-use Rattle.patr_shell.specs.Answering.{last_of, last_piece, last_line, HasNoFeed}
+use Rattle.patr_shell.specs.Answering.{last_of, last_piece, last_line, HasNoFeed, joined_by_feeds, ended_part}
 
 abbrev pub cut : List ℕ → Cut
 cut bytes = cut_at (nat_eq 10) bytes
@@ -130,3 +130,32 @@ pub take_is_free : (n : ℕ) (xs : List ℕ) → HasNoFeed xs → HasNoFeed (tak
 take_is_free zero xs none = refl
 take_is_free (suc n) [] none = refl
 take_is_free (suc n) (b ∷ bs) none = front_free n b bs (take_is_free n bs) none
+
+-- the bytes up to the last LF have the lines that end
+ended_lines : (first : List ℕ) (rest : List (List ℕ)) → AreFree first rest
+    → (whole_lines_of (joined_by_feeds first rest) ≡ whole_lines_from first rest) × (last_piece (joined_by_feeds first rest) ≡ [])
+ended_lines first [] free = (refl, refl)
+ended_lines first (next ∷ rest) free =
+    let more = ended_lines next rest free.1 in (
+      line_ended first free.0 (joined_by_feeds next rest) ∙ ap (λ (l : List (List ℕ)). without_cr first ∷ l) more.0,
+      piece_ended first free.0 (joined_by_feeds next rest) ∙ more.1,
+    )
+
+pub lines_of_ended : (xs : List ℕ) → lines_of (ended_part xs) ≡ whole_lines_of xs
+lines_of_ended xs =
+    let at = ended_lines (cut xs).first (cut xs).rest (pieces_are_free xs) in
+    lines_are (ended_part xs) ∙ ap (λ (p : List ℕ). whole_lines_of (ended_part xs) ++ last_line p) at.1 ∙ append-nil (whole_lines_of (ended_part xs)) ∙ at.0
+
+shorter : (first : List ℕ) (rest : List (List ℕ)) (b : ℕ) → length (joined_by_feeds (b ∷ first) rest) ≤ suc (length (joined_by_feeds first rest))
+shorter first [] b = omega arith
+shorter first (next ∷ rest) b = omega arith
+
+pub ended_is_short : (xs : List ℕ) → length (ended_part xs) ≤ length xs
+ended_is_short [] = omega arith
+ended_is_short (b ∷ bs) =
+    let k = ended_is_short bs in
+    let P : Cut → Type 0 = λ c. length (joined_by_feeds c.first c.rest) ≤ suc (length bs) in
+    elim (nat_eq 10 b) as (λ t. P (cond t (behind (cut bs)) (onto b (cut bs)))) [
+      | true ↦ omega (arith, k)
+      | false ↦ omega (arith, k, shorter (cut bs).first (cut bs).rest b)
+    ]

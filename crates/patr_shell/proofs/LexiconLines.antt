@@ -1,14 +1,13 @@
--- The lines of a lexicon, cut one by one from the front, and read two by two.
-use Rattle.std.proofs.Common.{◌≡◌, ◌≢◌, ℕ, suc, ◌+◌, ◌<◌, ◌≤◌, List, [], ◌∷◌, ◌++◌, length, get_or, false, cond, nat_eq, Option, Some, None, Bor, refl, sym, ap, ◌∙◌, arith, length-append}
-use Rattle.std.specs.Option.{unwrap_or}
+-- The lines of a lexicon, cut one by one from the front.
+use Rattle.std.proofs.Common.{◌≡◌, ◌≢◌, ℕ, suc, ◌+◌, ◌<◌, ◌≤◌, List, [], ◌∷◌, ◌++◌, length, get_or, drop, Bool, true, false, cond, ◌&&◌, nat_eq, Option, Some, None, refl, sym, ap, ◌∙◌, arith, length-append, drop-cons, add-one}
+use Rattle.std.proofs.Math.ListN.{drop_of_length-le}
+use Rattle.std.specs.Str.{IsCharBoundary}
 use Rattle.std.proofs.lemmas.Bool.{ne_eqb}
-use Rattle.std.proofs.lemmas.List.{nil_from_length}
-use Rattle.std.proofs.lemmas.Str.Pattern.{IsSplitOnceResult, split_parts}
-use Rattle.patr_model.specs.Session.{Cut, cut_at, lines_by}
-use Rattle.patr_model.specs.FirstPass.{Entries, StopsAtLine, lexicon_lines, entries, read_pair, with_entry, field}
-use Rattle.patr_shell.specs.LexiconReading.{IsFirstLine}
-
--- ---- one line
+use Rattle.std.proofs.lemmas.Bool.Decides.{nat_tests}
+use Rattle.patr_model.specs.Tokens.{Place, is_control}
+use Rattle.patr_model.specs.LexiconLines.{is_edge, control}
+use Rattle.patr_shell.specs.LexiconReading.{place_at}
+use Rattle.patr_model.specs.Session.{Cut, cut_at, pieces}
 
 -- no byte of these is an LF
 abbrev pub NoLf : List ℕ → Type 0
@@ -38,82 +37,59 @@ cut_last (b ∷ bs) h =
     let c = cut_at (nat_eq 10) bs in
     ap (λ t. cond t (ended [] c) (onto b c)) (no_first b bs h) ∙ ap (onto b) (cut_last bs (no_other b bs h))
 
-lines_of_cut : Cut → List (List ℕ)
-lines_of_cut c = lines_by (λ l. l) c.first c.rest
+pieces_of_cut : Cut → List (List ℕ)
+pieces_of_cut c = c.first ∷ c.rest
 
 -- a line that an LF ends stands before the lines of the rest
-pub lines_ended : (line rest : List ℕ) → NoLf line → lexicon_lines (line ++ 10 ∷ rest) ≡ line ∷ lexicon_lines rest
-unfolding lines_of_cut
-lines_ended line rest h = ap lines_of_cut (cut_ended line rest h)
+pub line_ended : (text line rest : List ℕ) → text ≡ line ++ 10 ∷ rest → NoLf line → pieces (nat_eq 10) text ≡ line ∷ pieces (nat_eq 10) rest
+unfolding pieces_of_cut
+line_ended text line rest is h = rw is (ap pieces_of_cut (cut_ended line rest h))
 
--- a text with no LF is one line, or none
-pub lines_last : (line : List ℕ) → NoLf line → 0 < length line → lexicon_lines line ≡ line ∷ []
-unfolding lines_of_cut
-lines_last [] h some = absurd (omega arith)
-lines_last (b ∷ bs) h some = ap lines_of_cut (cut_last (b ∷ bs) h)
+-- a text with no LF is one line
+pub line_last : (line : List ℕ) → NoLf line → pieces (nat_eq 10) line ≡ line ∷ []
+unfolding pieces_of_cut
+line_last line h = ap pieces_of_cut (cut_last line h)
 
-pub first_line : (text : List ℕ) (r : Option (Bor (List ℕ) × Bor (List ℕ))) (d : Bor (List ℕ) × Bor (List ℕ)) → IsSplitOnceResult 10 text r → d.0.now ≡ text → d.1.now ≡ []
-    → IsFirstLine text (unwrap_or r d).0.now (unwrap_or r d).1.now
-first_line text None d h all none =
-    let lacks : NoLf text = split_parts 10 text None h (omega arith) in
-    record {
-      lines = λ some. rw (all, none) (lines_last text lacks some);
-      within = rw (all, none) (omega arith);
-    }
-first_line text (Some x) d h all none =
-    let parts = split_parts 10 text (Some x) h (omega arith) in
-    record {
-      lines = λ some. rw parts.0 (lines_ended x.0.now x.1.now parts.1);
-      within = omega (arith, ap length parts.0, length-append x.0.now (10 ∷ x.1.now));
-    }
+pub line_len : (text line rest : List ℕ) → text ≡ line ++ 10 ∷ rest → length line + (1 + length rest) ≡ length text
+line_len text line rest is = omega (arith, ap length is, length-append line (10 ∷ rest))
 
--- ---- two lines
+-- ---- control characters
 
-pub field_len : (m : ℕ) (l w : List ℕ) → field m l ≡ Some w → 4 ≤ length l
-field_len m [] w h = absurd cc
-field_len m (a ∷ []) w h = absurd cc
-field_len m (a ∷ b ∷ []) w h = absurd cc
-field_len m (a ∷ b ∷ c ∷ []) w h = absurd cc
-field_len m (a ∷ b ∷ c ∷ d ∷ l) w h = omega arith
+module _ (comments : Bool) (n k : ℕ) (bs : List ℕ) (i : ℕ) where
+  here : i < length bs → drop i bs ≡ get_or bs i 0 ∷ drop (i + 1) bs
+  here lt = rw (add-one, drop-cons bs i 0) refl
 
--- where nothing stands behind the first line, the second is one that is read as none
-two_by : (n : ℕ) (a r b s : List ℕ) → IsFirstLine r b s → entries n (a ∷ lexicon_lines r) ≡ read_pair n (field 119 a) (field 99 b) (entries (suc (suc n)) (lexicon_lines s))
-unfolding entries
-two_by n a [] b s h =
-    let nob : b ≡ [] = nil_from_length b (omega (arith, h.within)) in
-    let nos : s ≡ [] = nil_from_length s (omega (arith, h.within)) in
-    rw (nob, nos) refl
-two_by n a (x ∷ xs) b s h = rw (h.lines (omega arith)) refl
+  step : ℕ → List ℕ → Bool → Bool → Option Place
+  step b rest t u = cond t (Some (place_at n k)) (cond u None (control comments (place_at n (k + 1)) rest))
 
-pub two_lines : (n : ℕ) (text a r b s : List ℕ) → 0 < length text → IsFirstLine text a r → IsFirstLine r b s
-    → entries n (lexicon_lines text) ≡ read_pair n (field 119 a) (field 99 b) (entries (suc (suc n)) (lexicon_lines s))
-two_lines n text a r b s some h k = rw (h.lines some) (two_by n a r b s k)
+  begins : i < length bs → control comments (place_at n k) (drop i bs) ≡ step (get_or bs i 0) (drop (i + 1) bs) (is_control (get_or bs i 0)) (comments && nat_eq (get_or bs i 0) 59)
+  unfolding step control
+  begins lt = ap (control comments (place_at n k)) (here lt)
 
-stops_at : (n : ℕ) (a : List ℕ) (ls : List (List ℕ)) → field 119 a ≡ None → entries n (a ∷ ls) ≡ StopsAtLine n
-unfolding entries
-stops_at n a [] none = ap (λ w. read_pair n w None (Entries [])) none
-stops_at n a (b ∷ ls) none = ap (λ w. read_pair n w (field 99 b) (entries (suc (suc n)) ls)) none
+  pub control_hit : i < length bs → is_control (get_or bs i 0) ≡ true → control comments (place_at n k) (drop i bs) ≡ Some (place_at n k)
+  unfolding step
+  control_hit lt hit = begins lt ∙ ap (λ t. step (get_or bs i 0) (drop (i + 1) bs) t (comments && nat_eq (get_or bs i 0) 59)) hit
 
-pub stops_first : (n : ℕ) (text a r : List ℕ) → 0 < length text → IsFirstLine text a r → field 119 a ≡ None → entries n (lexicon_lines text) ≡ StopsAtLine n
-stops_first n text a r some h none = rw (h.lines some) (stops_at n a (lexicon_lines r) none)
+  pub control_stops : i < length bs → is_control (get_or bs i 0) ≡ false → (comments && nat_eq (get_or bs i 0) 59) ≡ true → control comments (place_at n k) (drop i bs) ≡ None
+  unfolding step
+  control_stops lt passes stops =
+      begins lt ∙ ap (λ t. step (get_or bs i 0) (drop (i + 1) bs) t (comments && nat_eq (get_or bs i 0) 59)) passes
+      ∙ ap (step (get_or bs i 0) (drop (i + 1) bs) false) stops
 
-pub stops_second : (n : ℕ) (text a r b s w : List ℕ) → 0 < length text → IsFirstLine text a r → IsFirstLine r b s → field 119 a ≡ Some w → field 99 b ≡ None
-    → entries n (lexicon_lines text) ≡ StopsAtLine (n + 1)
-stops_second n text a r b s w some h k is none =
-    two_lines n text a r b s some h k
-    ∙ ap (λ w. read_pair n w (field 99 b) (entries (suc (suc n)) (lexicon_lines s))) is
-    ∙ ap (λ c. read_pair n (Some w) c (entries (suc (suc n)) (lexicon_lines s))) none
-    ∙ ap StopsAtLine (omega arith)
+  pub control_goes_on : i < length bs → is_control (get_or bs i 0) ≡ false → (comments && nat_eq (get_or bs i 0) 59) ≡ false → control comments (place_at n k) (drop i bs) ≡ control comments (place_at n (k + 1)) (drop (i + 1) bs)
+  unfolding step
+  control_goes_on lt passes goes =
+      begins lt ∙ ap (λ t. step (get_or bs i 0) (drop (i + 1) bs) t (comments && nat_eq (get_or bs i 0) 59)) passes
+      ∙ ap (step (get_or bs i 0) (drop (i + 1) bs) false) goes
 
-pub reads_both : (n : ℕ) (text a r b s w c : List ℕ) → 0 < length text → IsFirstLine text a r → IsFirstLine r b s → field 119 a ≡ Some w → field 99 b ≡ Some c
-    → entries n (lexicon_lines text) ≡ with_entry (record { word = w; category = c }) (entries (n + 2) (lexicon_lines s))
-reads_both n text a r b s w c some h k is is' =
-    let later : suc (suc n) ≡ n + 2 = omega arith in
-    two_lines n text a r b s some h k
-    ∙ ap (λ w. read_pair n w (field 99 b) (entries (suc (suc n)) (lexicon_lines s))) is
-    ∙ ap (λ c. read_pair n (Some w) c (entries (suc (suc n)) (lexicon_lines s))) is'
-    ∙ ap (λ m. with_entry (record { word = w; category = c }) (entries m (lexicon_lines s))) later
+  pub control_ends : length bs ≤ i → control comments (place_at n k) (drop i bs) ≡ None
+  unfolding control
+  control_ends le = ap (control comments (place_at n k)) (drop_of_length-le bs le)
 
--- two lines that hold words have eight bytes or more
-pub both_len : (text a r b s w c : List ℕ) → IsFirstLine text a r → IsFirstLine r b s → field 119 a ≡ Some w → field 99 b ≡ Some c → length s + 8 ≤ length text
-both_len text a r b s w c h k is is' = omega (arith, h.within, k.within, field_len 119 a w is, field_len 99 b c is')
+-- ---- where a text may be cut
+
+pub edge_is_ascii : (b : ℕ) → is_edge b ≡ true → b < 128
+edge_is_ascii b h = grind (arith, nat_tests)
+
+pub edge_is_boundary : (bs : List ℕ) (i : ℕ) → i ≤ length bs → (i < length bs → is_edge (get_or bs i 0) ≡ true) → IsCharBoundary bs i
+edge_is_boundary bs i le edge = (le, λ lt high. absurd (omega (arith, edge_is_ascii (get_or bs i 0) (edge lt))))

@@ -1,77 +1,171 @@
--- The reading of a lexicon, entry by entry.
-use Rattle.std.proofs.Common.{◌≡◌, ℕ, ◌+◌, ◌≤◌, min, List, [], ◌∷◌, ◌++◌, length, refl, ap, ◌∙◌, arith, length-append}
-use Rattle.std.specs.Str.{IsUtf8}
-use Rattle.std.proofs.lemmas.List.{nil_from_length}
-use Rattle.patr_model.specs.FirstPass.{PlainEntry, EntriesRead, Entries, StopsAtLine, with_entry, entries, lexicon_lines}
-use Rattle.patr_model.specs.Renaming.{Each}
+-- The reading of a lexicon, line by line.
+use Rattle.std.proofs.Common.{◌≡◌, ℕ, suc, ◌+◌, ◌≤◌, List, [], ◌∷◌, ◌++◌, length, nat_eq, Option, Some, None, Result, Ok, Err, Bor, refl, sym, ap, ◌∙◌, subst, arith, length-append, append-nil}
+use Rattle.patr_model.specs.Session.{pieces}
+use Rattle.patr_model.specs.LexiconLines.{Fields, kind, line_at, line_before, numbered, lines, fields_of}
+use Rattle.patr_model.specs.LexiconText.{EntryText, EntryFault, read_fields}
+use Rattle.patr_model.specs.Renaming.{Each, Both}
+use Rattle.patr_model.specs.Built.{stage}
 use Rattle.patr_text.specs.Texts.{Extends}
 use Rattle.patr_text.specs.declared.fault.Fault.{Fault}
 use Rattle.patr_text.specs.declared.fault.Fault.TheVariants.{Memory, Refused}
-use Rattle.patr_shell.specs.declared.language.Entry.{Entry}
+use Rattle.patr_text.specs.declared.symbols.Id.{Id}
+use Rattle.patr_shell.specs.declared.lexicon.Entry as code
 use Rattle.patr_shell.specs.declared.lexicon.LexiconCause.{LexiconCause}
-use Rattle.patr_shell.specs.declared.lexicon.LexiconCause.TheVariants.{NotUtf8, LaterForm}
-use Rattle.patr_shell.specs.LexiconReading.{IsEntryOf, StandsFor, IsRefusedFor, IsFirstEntry, StopsThere}
-use Rattle.patr_grammar.proofs.Tables.{extends_self, extends_trans, each_push}
-use Rattle.patr_shell.proofs.LexiconTables.{entries_stay}
+use Rattle.patr_shell.specs.declared.lexicon.record.Record as code_record
+use Rattle.patr_shell.specs.declared.lexicon.state.State.{State}
+use Rattle.patr_shell.specs.declared.lexicon.state.State.TheVariants.{Start}
+use Rattle.patr_shell.specs.LexiconReading.{IsEntryOf, HasText}
+use Rattle.patr_shell.specs.LexiconRecords.{closed}
+use Rattle.patr_shell.specs.LexiconParts.{record_seen, rest_lines, rest_len}
+use Rattle.patr_shell.specs.LexiconStates.{then_rest, then_more, goes_on, ended_before, record_of, FailsFor, most_texts_of, IsKept}
+use Rattle.patr_shell.proofs.LexiconStates.{ends}
+use Rattle.patr_grammar.proofs.Tables.{text_still, extends_trans}
 
--- these entries, before what is read behind them
-abbrev pub with_entries : List PlainEntry → EntriesRead → EntriesRead
-with_entries [] r = r
-with_entries (p ∷ ps) r = with_entry p (with_entries ps r)
+extends_self : (texts : List (List ℕ)) → Extends texts texts
+extends_self texts = ([], sym (append-nil texts))
 
-one_more : (ps : List PlainEntry) (p : PlainEntry) (r : EntriesRead) → with_entries ps (with_entry p r) ≡ with_entries (ps ++ p ∷ []) r
-one_more [] p r = refl
-one_more (q ∷ ps) p r = ap (with_entry q) (one_more ps p r)
+-- ---- entries that are kept
 
-all_read : (ps : List PlainEntry) → with_entries ps (Entries []) ≡ Entries ps
-all_read [] = refl
-all_read (p ∷ ps) = ap (with_entry p) (all_read ps)
+pub none_kept : (table : List (List ℕ)) (es : List code.Entry) → IsKept table es es None
+none_kept table es = record { more = []; texts = []; items = sym (append-nil es); numbers = tt; few = omega arith; read = λ rest. refl }
 
-all_stop : (ps : List PlainEntry) (k : ℕ) → with_entries ps (StopsAtLine k) ≡ StopsAtLine k
-all_stop [] k = refl
-all_stop (p ∷ ps) k = ap (with_entry p) (all_stop ps k)
+pub one_kept : (table : List (List ℕ)) (old new : List code.Entry) (r : code_record.Record) (e : code.Entry) (t : EntryText)
+    → new ≡ old ++ e ∷ [] → closed (record_seen r) ≡ Ok t → IsEntryOf table e t → IsKept table old new (Some r)
+one_kept table old new r e t items is numbers = record { more = e ∷ []; texts = t ∷ []; items = items; numbers = (numbers, tt); few = omega arith; read = λ rest. ap (λ x. then_rest x rest) is }
 
--- of a text, these entries are read, and the rest begins at line n
-pub record IsReadSoFar (old : List (List ℕ)) (text : List ℕ) (table : List (List ℕ)) (es : List Entry) (n : ℕ) (rest : List ℕ) : Type 0 where
-  pub plain : List PlainEntry
-  pub numbers : Each (IsEntryOf table) es plain
-  pub read : entries 1 (lexicon_lines text) ≡ with_entries plain (entries n (lexicon_lines rest))
+-- ---- tables that grow
+
+both_still : (old new : List (List ℕ)) → Extends old new → (i : Option Id) (t : Option (List ℕ)) → Both (HasText old) i t → Both (HasText new) i t
+both_still old new e None None h = tt
+both_still old new e None (Some t) h = absurd h
+both_still old new e (Some i) None h = absurd h
+both_still old new e (Some i) (Some t) h = text_still old new e i.0 t h
+
+entry_still : (old new : List (List ℕ)) → Extends old new → (x : code.Entry) (t : EntryText) → IsEntryOf old x t → IsEntryOf new x t
+entry_still old new e x t h = (h.0, text_still old new e x.word.0 t.word h.1, text_still old new e x.category.0 t.category h.2, both_still old new e x.gloss t.gloss h.3)
+
+entries_still : (old new : List (List ℕ)) → Extends old new → (es : List code.Entry) (ts : List EntryText) → Each (IsEntryOf old) es ts → Each (IsEntryOf new) es ts
+entries_still old new e [] [] h = tt
+entries_still old new e [] (t ∷ ts) h = absurd h
+entries_still old new e (x ∷ xs) [] h = absurd h
+entries_still old new e (x ∷ xs) (t ∷ ts) h = (entry_still old new e x t h.0, entries_still old new e xs ts h.1)
+
+each_two : {X Y : Type 0} (R : X → Y → Type 0) (xs : List X) (ys : List Y) (us : List X) (vs : List Y) → Each R xs ys → Each R us vs → Each R (xs ++ us) (ys ++ vs)
+each_two R [] [] us vs h k = k
+each_two R [] (y ∷ ys) us vs h k = absurd h
+each_two R (x ∷ xs) [] us vs h k = absurd h
+each_two R (x ∷ xs) (y ∷ ys) us vs h k = (h.0, each_two R xs ys us vs h.1 k)
+
+-- ---- entries, and what is read behind them
+
+more_two : (ts us : List EntryText) (r : Result (List EntryText) EntryFault) → then_more ts (then_more us r) ≡ then_more (ts ++ us) r
+more_two [] us r = refl
+more_two (t ∷ ts) us r = ap (then_rest (Ok t)) (more_two ts us r)
+
+more_none : (ts : List EntryText) → then_more ts (Ok []) ≡ Ok ts
+more_none [] = refl
+more_none (t ∷ ts) = ap (then_rest (Ok t)) (more_none ts)
+
+more_fails : (ts : List EntryText) (f : EntryFault) → then_more ts (Err f) ≡ Err f
+more_fails [] f = refl
+more_fails (t ∷ ts) f = ap (then_rest (Ok t)) (more_fails ts f)
+
+-- what a whole text is read as
+abbrev pub whole : List ℕ → Result (List EntryText) EntryFault
+whole text = read_fields stage (fields_of (lines text))
+
+-- Of a text these entries are read so far, left is what is read behind them, and so many texts may still be numbered.
+pub record IsRead (old : List (List ℕ)) (text : List ℕ) (table : List (List ℕ)) (es : List code.Entry) (left : Result (List EntryText) EntryFault) (room : ℕ) : Type 0 where
+  pub done : List EntryText
+  pub numbers : Each (IsEntryOf table) es done
+  pub read : whole text ≡ then_more done left
   pub extends : Extends old table
-  pub growth : length table + length rest ≤ length old + length text
-  pub line : n + length rest ≤ 1 + length text
-  pub few : length es + length rest ≤ length text
+  pub growth : length table + room ≤ length old + length text
+  pub few : length es + room ≤ length text
 
-pub none_read : (old : List (List ℕ)) (text : List ℕ) → IsReadSoFar old text old [] 1 text
-none_read old text = record {
-  plain = [];
-  numbers = tt;
-  read = refl;
-  extends = extends_self old;
-  growth = omega arith;
-  line = omega arith;
-  few = omega arith;
-}
+-- what is left behind the lines before line n
+abbrev pub left_at : State → ℕ → List ℕ → Result (List EntryText) EntryFault
+left_at s n rest = goes_on s (fields_of (numbered n (pieces (nat_eq 10) rest)))
 
-module _ (old : List (List ℕ)) (text : List ℕ) (table : List (List ℕ)) (es : List Entry) (n : ℕ) (rest : List ℕ) (so_far : IsReadSoFar old text table es n rest) where
-  pub one_read : (new : List (List ℕ)) (e : Entry) (behind : List ℕ) → Extends table new → length new ≤ length table + min 2 (length rest) → IsFirstEntry new rest n e behind
-      → IsReadSoFar old text new (es ++ e ∷ []) (n + 2) behind
-  one_read new e behind grows growth first = record {
-    plain = so_far.plain ++ first.plain ∷ [];
-    numbers = each_push (IsEntryOf new) es so_far.plain e first.plain (entries_stay table new es so_far.plain grows so_far.numbers) first.numbers;
-    read = so_far.read ∙ ap (with_entries so_far.plain) first.read ∙ one_more so_far.plain first.plain (entries (n + 2) (lexicon_lines behind));
-    extends = extends_trans old table new so_far.extends grows;
-    growth = omega (arith, so_far.growth, first.within);
-    line = omega (arith, so_far.line, first.within);
-    few = omega (arith, so_far.few, first.within, length-append es (e ∷ []));
+pub none_read : (old : List (List ℕ)) (text : List ℕ) → IsRead old text old [] (left_at Start 1 text) (0 + length text)
+none_read old text = record { done = []; numbers = tt; read = refl; extends = extends_self old; growth = omega arith; few = omega arith }
+
+module _ (old : List (List ℕ)) (text : List ℕ) (table : List (List ℕ)) (es : List code.Entry) where
+  -- the same, said otherwise
+  pub read_as : (left left' : Result (List EntryText) EntryFault) (room room' : ℕ) → left ≡ left' → room' ≤ room → IsRead old text table es left room → IsRead old text table es left' room'
+  read_as left left' room room' same less h = record {
+    done = h.done;
+    numbers = h.numbers;
+    read = h.read ∙ ap (then_more h.done) same;
+    extends = h.extends;
+    growth = omega (arith, h.growth);
+    few = omega (arith, h.few);
   }
 
-  pub stands : IsUtf8 text → length rest ≡ 0 → StandsFor table text es
-  unfolding entries
-  stands utf8 none =
-      let end : entries n (lexicon_lines rest) ≡ Entries [] = rw (nil_from_length rest none) refl in
-      (so_far.plain, (utf8, so_far.read ∙ ap (with_entries so_far.plain) end ∙ all_read so_far.plain), so_far.numbers)
+  pub kept_read : (new : List (List ℕ)) (es' : List code.Entry) (ended : Option code_record.Record) (rest : Result (List EntryText) EntryFault) (room : ℕ)
+      → IsRead old text table es (ended_before ended rest) (most_texts_of ended + room) → Extends table new → length new ≤ length table + most_texts_of ended → IsKept new es es' ended
+      → IsRead old text new es' rest room
+  kept_read new es' ended rest room h grows growth kept = record {
+    done = h.done ++ kept.texts;
+    numbers = subst (λ l. Each (IsEntryOf new) l (h.done ++ kept.texts)) (sym kept.items) (each_two (IsEntryOf new) es h.done kept.more kept.texts (entries_still table new grows es h.done h.numbers) kept.numbers);
+    read = h.read ∙ ap (then_more h.done) (kept.read rest) ∙ more_two h.done kept.texts rest;
+    extends = extends_trans old table new h.extends grows;
+    growth = omega (arith, h.growth, growth);
+    few = omega (arith, h.few, kept.few, ap length kept.items, length-append es kept.more);
+  }
 
-  pub refused : (fault : Fault LexiconCause) → IsUtf8 text → StopsThere rest n fault → IsRefusedFor text fault
-  refused Memory utf8 h = tt
-  refused (Refused (NotUtf8 at)) utf8 h = absurd h
-  refused (Refused (LaterForm line column)) utf8 h = ((utf8, so_far.read ∙ ap (with_entries so_far.plain) h.0 ∙ all_stop so_far.plain line), h.1)
+  pub fails_behind : (left : Result (List EntryText) EntryFault) (room : ℕ) (fault : Fault LexiconCause) → IsRead old text table es left room → FailsFor left fault → FailsFor (whole text) fault
+  fails_behind left room Memory h k = tt
+  fails_behind left room (Refused c) h k = (k.0, k.1, h.read ∙ ap (then_more h.done) k.2 ∙ more_fails h.done k.0)
+
+  pub all_read : (room : ℕ) → IsRead old text table es (Ok []) room → (texts : List EntryText) × (whole text ≡ Ok texts) × Each (IsEntryOf table) es texts
+  all_read room h = (h.done, h.read ∙ more_none h.done, h.numbers)
+
+-- ---- one line
+
+pub line_left : (s : State) (n : ℕ) (rest line : List ℕ) (behind : Option (Bor (List ℕ))) → pieces (nat_eq 10) rest ≡ line ∷ rest_lines behind
+    → left_at s n rest ≡ goes_on s (line_before (line_at n line) (kind line) (fields_of (numbered (suc n) (rest_lines behind))))
+line_left s n rest line behind cut = ap (λ ls. goes_on s (fields_of (numbered n ls))) cut
+
+pub next_left : (s : State) (n : ℕ) (behind : Bor (List ℕ)) → goes_on s (fields_of (numbered (suc n) (rest_lines (Some behind)))) ≡ left_at s (n + 1) behind.now
+next_left s n behind =
+    let later : suc n ≡ n + 1 = omega arith in
+    ap (λ k. left_at s k behind.now) later
+
+module _ (old : List (List ℕ)) (text : List ℕ) (table : List (List ℕ)) (es : List code.Entry) (s : State) (n : ℕ) (rest line : List ℕ) (behind : Option (Bor (List ℕ))) (cut : pieces (nat_eq 10) rest ≡ line ∷ rest_lines behind) where
+  -- a line at which the reading fails
+  pub line_fails : (room : ℕ) (fault : Fault LexiconCause) → IsRead old text table es (left_at s n rest) room
+      → ((fs : Fields) → FailsFor (goes_on s (line_before (line_at n line) (kind line) fs)) fault) → FailsFor (whole text) fault
+  line_fails room fault h fails =
+      fails_behind old text table es (left_at s n rest) room fault h
+      (subst (λ (r : Result (List EntryText) EntryFault). FailsFor r fault) (sym (line_left s n rest line behind cut)) (fails (fields_of (numbered (suc n) (rest_lines behind)))))
+
+  -- a line that is read
+  pub line_read : (s' : State) (ended : Option code_record.Record) → IsRead old text table es (left_at s n rest) (most_texts_of (record_of s) + length rest)
+      → ((fs : Fields) → goes_on s (line_before (line_at n line) (kind line) fs) ≡ ended_before ended (goes_on s' fs))
+      → most_texts_of ended + most_texts_of (record_of s') ≤ most_texts_of (record_of s) + length line → length line + rest_len behind ≡ length rest
+      → IsRead old text table es (ended_before ended (goes_on s' (fields_of (numbered (suc n) (rest_lines behind))))) (most_texts_of ended + (most_texts_of (record_of s') + rest_len behind))
+  line_read s' ended h reads most_texts len =
+      read_as old text table es (left_at s n rest) _ (most_texts_of (record_of s) + length rest) _
+      (line_left s n rest line behind cut ∙ reads (fields_of (numbered (suc n) (rest_lines behind)))) (omega (arith, most_texts, len)) h
+
+  -- and whose ended record is kept
+  pub line_kept : (s' : State) (ended : Option code_record.Record) (new : List (List ℕ)) (es' : List code.Entry) → IsRead old text table es (left_at s n rest) (most_texts_of (record_of s) + length rest)
+      → ((fs : Fields) → goes_on s (line_before (line_at n line) (kind line) fs) ≡ ended_before ended (goes_on s' fs))
+      → most_texts_of ended + most_texts_of (record_of s') ≤ most_texts_of (record_of s) + length line → length line + rest_len behind ≡ length rest
+      → Extends table new → length new ≤ length table + most_texts_of ended → IsKept new es es' ended
+      → IsRead old text new es' (goes_on s' (fields_of (numbered (suc n) (rest_lines behind)))) (most_texts_of (record_of s') + rest_len behind)
+  line_kept s' ended new es' h reads most_texts len grows growth kept =
+      kept_read old text table es new es' ended (goes_on s' (fields_of (numbered (suc n) (rest_lines behind)))) (most_texts_of (record_of s') + rest_len behind) (line_read s' ended h reads most_texts len) grows growth kept
+
+module _ (old : List (List ℕ)) (text : List ℕ) (table : List (List ℕ)) (es : List code.Entry) (s : State) (n : ℕ) (behind : Option (Bor (List ℕ))) where
+  -- no line is left
+  pub last_read : behind ≡ None → IsRead old text table es (goes_on s (fields_of (numbered (suc n) (rest_lines behind)))) (most_texts_of (record_of s) + rest_len behind)
+      → IsRead old text table es (ended_before (record_of s) (Ok [])) (most_texts_of (record_of s) + 0)
+  last_read none h = read_as old text table es _ _ _ _ (ap (λ b. goes_on s (fields_of (numbered (suc n) (rest_lines b)))) none ∙ ends s) (omega arith) h
+
+  -- a line is left
+  pub next_read : (b : Bor (List ℕ)) → behind ≡ Some b → IsRead old text table es (goes_on s (fields_of (numbered (suc n) (rest_lines behind)))) (most_texts_of (record_of s) + rest_len behind)
+      → IsRead old text table es (left_at s (n + 1) b.now) (most_texts_of (record_of s) + length b.now)
+  next_read b some h =
+      read_as old text table es _ _ _ _ (ap (λ b. goes_on s (fields_of (numbered (suc n) (rest_lines b)))) some ∙ next_left s n b) (omega (arith, ap rest_len some)) h

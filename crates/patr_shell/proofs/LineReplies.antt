@@ -1,9 +1,9 @@
 -- The reply to a line, by what the line is.
-use Rattle.std.proofs.Common.{◌≡◌, ℕ, ◌<◌, ◌≤◌, Bool, true, false, nat_eq, List, [], ◌∷◌, length, get_or, refl, sym, ap, ◌∙◌, subst, arith, eqb-true, eq-eqb, MatchBool, IsUtf8, Bor, map}
+use Rattle.std.proofs.Common.{◌≡◌, ℕ, ◌<◌, ◌≤◌, Bool, true, false, nat_eq, List, [], ◌∷◌, length, get_or, refl, sym, ap, ◌∙◌, subst, arith, eqb-true, eq-eqb, MatchBool, IsUtf8, Bor, map, codes}
 use Rattle.std.specs.Bool.{Decides}
 use Rattle.patr_model.specs.Plain.{plain}
-use Rattle.patr_model.specs.Session.{Grounds, State, IsSentenceReply, IsWordsReply, IsColonReply, IsLineReply, begins_with_colon, words_of}
-use Rattle.patr_model.specs.FirstPass.{bad_command, sentences_alone}
+use Rattle.patr_model.specs.Session.{Grounds, State, IsSentenceReply, IsWordsReply, IsColonReply, IsLineReply, begins_with_colon, words_of, line}
+use Rattle.patr_model.specs.Built.{sentences_alone}
 
 -- whether the first word begins with a colon
 colon_is : (w : List ℕ) (ws : List (List ℕ)) (r : Bool) → Decides r (get_or w 0 0 ≡ 58) → begins_with_colon (w ∷ ws) ≡ r
@@ -20,10 +20,10 @@ module _ (s : Grounds) (st : State) (bytes : List ℕ) where
   abbrev pub IsReply : List ℕ → Type 0
   IsReply text = IsLineReply (λ g cat. plain g) sentences_alone s st bytes text st
 
-  pub long_line : (text : List ℕ) → 4096 < length bytes → text ≡ bad_command → IsReply text
+  pub long_line : (text : List ℕ) → 4096 < length bytes → text ≡ line (codes "error: line too long") → IsReply text
   long_line text long is = IsLineReply.too_long long is refl
 
-  pub no_text : (text : List ℕ) → length bytes ≤ 4096 → (IsUtf8 bytes → ⊥) → text ≡ bad_command → IsReply text
+  pub no_text : (text : List ℕ) → length bytes ≤ 4096 → (IsUtf8 bytes → ⊥) → text ≡ line (codes "error: line is not UTF-8") → IsReply text
   no_text text short wrong is = IsLineReply.not_text short wrong is refl
 
   module _ (short : length bytes ≤ 4096) (utf8 : IsUtf8 bytes) where
@@ -34,7 +34,7 @@ module _ (s : Grounds) (st : State) (bytes : List ℕ) where
         → MatchBool (begins_with_colon (w ∷ ws)) (IsColonReply (λ g cat. plain g) sentences_alone s st (sentences_alone.command (w ∷ ws)) text st) (IsSentenceReply (λ g cat. plain g) s st (w ∷ ws) text × (st ≡ st)) → IsReply text
     with_words w ws text are h = IsLineReply.spelled short utf8 (subst (λ vs. IsWordsReply (λ g cat. plain g) sentences_alone s st vs text st) (sym are) h)
 
-    pub colon_line : (words : List (List ℕ)) (text : List ℕ) (r : Bool) → words ≡ words_of bytes → 0 < length words → r ≡ true → Decides r (get_or (get_or words 0 []) 0 0 ≡ 58) → text ≡ bad_command → IsReply text
+    pub colon_line : (words : List (List ℕ)) (text : List ℕ) (r : Bool) → words ≡ words_of bytes → 0 < length words → r ≡ true → Decides r (get_or (get_or words 0 []) 0 0 ≡ 58) → text ≡ line (codes "error: bad command") → IsReply text
     colon_line [] text r are some yes' d is = absurd (omega (arith, some))
     colon_line (w ∷ ws) text r are some q d is =
         with_words w ws text (sym are) (subst (λ b. MatchBool b (IsColonReply (λ g cat. plain g) sentences_alone s st (sentences_alone.command (w ∷ ws)) text st) (IsSentenceReply (λ g cat. plain g) s st (w ∷ ws) text × (st ≡ st))) (sym (colon_is w ws r d ∙ q)) (is, refl))

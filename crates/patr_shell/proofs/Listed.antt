@@ -9,7 +9,7 @@ use Rattle.patr_text.specs.declared.symbols.Id.{Id}
 use Rattle.patr_model.proofs.Maps.{some_inj}
 use Rattle.patr_model.specs.Derivation.{RuleVariant, EntryVariant}
 use Rattle.patr_shell.specs.declared.language.Rule.{Rule}
-use Rattle.patr_shell.specs.declared.language.Entry.{Entry}
+use Rattle.patr_shell.specs.declared.lexicon.Entry.{Entry}
 use Rattle.patr_shell.specs.Begun.{HasOneVariant}
 use Rattle.patr_shell.specs.Spoken.{rule_categories, rule_variants, entry_of, entry_variants, rules_of, IsEntryHeld}
 use Rattle.patr_shell.specs.Listed.{AreListed}

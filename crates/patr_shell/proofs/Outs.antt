@@ -1,16 +1,18 @@
 -- What a run writes, by its opening and its session.
-use Rattle.std.proofs.Common.{◌≡◌, ◌<◌, ℕ, List, Option, Some, None, IfSome, Bool, true, false, length, refl, sym, ◌∙◌, ap, subst, inl, inr}
+use Rattle.std.proofs.Common.{◌≡◌, ◌<◌, ◌≤◌, arith, ℕ, List, Option, Some, None, IfSome, Bool, true, false, length, refl, sym, ◌∙◌, ap, subst, inl, inr}
 use Rattle.std.specs.Bool.{OnTrue}
 use Rattle.std.specs.Option.{IsSomeAnd}
 use Rattle.std.specs.FinMap.{get}
-use Rattle.std.specs.Io.KnownBytes.{Appends}
+use Rattle.std.specs.Io.KnownBytes.{Appends, Consumes}
 use Rattle.patr_io.specs.Files.{Files}
-use Rattle.patr_model.specs.Session.{Numbering}
+use Rattle.patr_model.specs.Session.{Numbering, whole_lines_of}
 use Rattle.patr_model.specs.Table.{IsTable}
 use Rattle.patr_model.specs.Run.{Opening, Session, Refusal as Refuses, AfterWords, AfterGrammar, IsOpening, IsOut, Follows}
-use Rattle.patr_model.specs.FirstPass.{first_pass, rules_line, entries_line}
-use Rattle.patr_grammar.specs.Reading.{trouble_of}
-use Rattle.patr_shell.specs.LexiconReading.{trouble_of as entries_trouble_of}
+use Rattle.patr_model.specs.Built.{built}
+use Rattle.patr_model.specs.GrammarText.{grammar_fault_line}
+use Rattle.patr_model.specs.LexiconText.{lexicon_fault_line}
+use Rattle.patr_grammar.specs.Reading.{fault_of}
+use Rattle.patr_shell.specs.LexiconReading.{fault_of as lexicon_fault_of}
 use Rattle.patr_shell.specs.declared.status.Status.{Status}
 use Rattle.patr_shell.specs.declared.status.Status.TheVariants.{Done, BadWords, BadGrammar, BadLexicon, ReadFault, WriteFault, Memory, InputTooLong}
 use Rattle.patr_shell.specs.declared.status.GrammarTrouble.TheVariants as grammar_trouble
@@ -19,8 +21,10 @@ use Rattle.patr_shell.specs.declared.refusal.Refusal.{Refusal}
 use Rattle.patr_shell.specs.declared.refusal.Refusal.TheVariants.{Words, Grammar, Lexicon}
 use Rattle.patr_shell.specs.Spoken.{Spoken, grounds, at_limit}
 use Rattle.patr_shell.specs.Sent.{AppendsFront}
-use Rattle.patr_shell.specs.Answering.{HasWrittenSession, HasBegunSession}
-use Rattle.patr_shell.specs.Outcome.{is_definite, ending_of, HaveSession, IsSessionStatus, IsStatusOf, status_of, refusal_line, IsOpened, IsEndOf, HasWritten, HasBegunRun}
+use Rattle.patr_shell.specs.Answering.{ended_part, HasAnswered, HasWrittenSession, HasBegunSession}
+use Rattle.patr_shell.specs.Outcome.{is_definite, ending_of, HaveSession, IsSessionStatus, IsStatusOf, status_of, refusal_line, IsOpened, IsEndOf, HasWritten, HasBegunRun, HasAnsweredTaken}
+use Rattle.patr_shell.proofs.Cuts.{lines_of_ended, ended_is_short}
+use Rattle.patr_shell.proofs.SessionTexts.{written_whole}
 use Rattle.patr_shell.proofs.Fronts.{no_front}
 use Rattle.patr_shell.proofs.RunLaws.{one_opening, numbered_tables, any_numbering}
 
@@ -31,13 +35,13 @@ long_file (Some bytes) most long = (bytes, refl, long)
 
 module _ (words : List (List ℕ)) (f : Files) where
   -- a refusal that has its cause is what the words and the files come to
-  refused : (N : Numbering) (r : Refusal) → IsStatusOf words (Some f) (status_of r) → IsOpening first_pass N words (get f) (Refuses (refusal_line r) (ending_of (status_of r)))
+  refused : (N : Numbering) (r : Refusal) → IsStatusOf words (Some f) (status_of r) → IsOpening built N words (get f) (Refuses (refusal_line r) (ending_of (status_of r)))
   refused N Words cause = inl (cause, refl)
   refused N (Grammar grammar_trouble.TooLong) cause =
       let file = long_file (get f cause.0.grammar) 4194304 cause.2 in
       inr (cause.0, cause.1, AfterWords.long file.0 file.1 file.2 refl)
   refused N (Grammar (grammar_trouble.Text why)) cause =
-      inr (cause.0, cause.1, AfterWords.fault cause.2.0 cause.2.1 cause.2.2 (rules_line (trouble_of why)) (trouble_of why, cause.2.3, refl) refl)
+      inr (cause.0, cause.1, AfterWords.fault cause.2.0 cause.2.1 cause.2.2 (grammar_fault_line (fault_of why)) (fault_of why, cause.2.3, refl) refl)
   refused N (Lexicon lexicon_trouble.TooLong) cause =
       let file = long_file (get f cause.0.lexicon) 16777216 cause.3 in
       inr (cause.0, cause.1, AfterWords.read cause.2.0 cause.2.1 cause.2.2 cause.2.3 cause.2.4 (AfterGrammar.long file.0 file.1 file.2 refl))
@@ -46,7 +50,7 @@ module _ (words : List (List ℕ)) (f : Files) where
         cause.0,
         cause.1,
         AfterWords.read cause.2.0 cause.2.1 cause.2.2 cause.2.3 cause.2.4
-            (AfterGrammar.fault cause.3.0 cause.3.1 cause.3.2 (entries_line (entries_trouble_of why)) (entries_trouble_of why, cause.3.3, refl) refl),
+            (AfterGrammar.fault cause.3.0 cause.3.1 cause.3.2 (lexicon_fault_line (lexicon_fault_of why)) (lexicon_fault_of why, cause.3.3, refl) refl),
       )
 
   refused_whole : (r : Refusal) → IsStatusOf words (Some f) (status_of r) → (input : List ℕ) (a b : Option (List ℕ)) → Appends a b (refusal_line r) → HasWritten words f input (status_of r) a b
@@ -59,28 +63,28 @@ module _ (words : List (List ℕ)) (f : Files) where
   refused_front : (r : Refusal) → IsStatusOf words (Some f) (status_of r) → (input : List ℕ) (a b : Option (List ℕ)) → AppendsFront a b (refusal_line r) → HasBegunRun words f input a b
   refused_front r cause input a b front = λ N text ending out.
       let same : out.0 ≡ Refuses (refusal_line r) (ending_of (status_of r)) = one_opening N words (get f) out.0 _ out.1 (refused N r cause) in
-      let follows : Follows first_pass (Refuses (refusal_line r) (ending_of (status_of r))) input text ending = subst (λ (o : Opening). Follows first_pass o input text ending) same out.2 in
+      let follows : Follows built (Refuses (refusal_line r) (ending_of (status_of r))) input text ending = subst (λ (o : Opening). Follows built o input text ending) same out.2 in
       subst (AppendsFront a b) (sym follows.0) front
 
   -- a session over what was opened
-  module _ (spoken : Spoken) (opened : IsOpened words f spoken) (table : IsTable spoken.texts) (input : List ℕ) (a b : Option (List ℕ)) where
-    session_whole : (status : Status) → HasWrittenSession spoken 20000 input (ending_of status) a b → HasWritten words f input status a b
+  module _ (spoken : Spoken) (limit : ℕ) (opened : IsOpened words f spoken limit) (table : IsTable spoken.texts) (input : List ℕ) (a b : Option (List ℕ)) where
+    session_whole : (status : Status) → HasWrittenSession spoken limit input (ending_of status) a b → HasWritten words f input status a b
     session_whole status written =
         let numbered = numbered_tables spoken.texts table in
         let N : Numbering = numbered.0 in
         record {
           text = written.text;
-          is_out = λ X. any_numbering N X words (get f) input written.text (ending_of status) (Session (grounds N spoken) (at_limit 20000), opened N numbered.1, written.is_session N numbered.1);
+          is_out = λ X. any_numbering N X words (get f) input written.text (ending_of status) (Session (grounds N spoken) (at_limit limit), opened N numbered.1, written.is_session N numbered.1);
           appended = written.appended;
         }
 
-    session_front : HasBegunSession spoken 20000 input a b → HasBegunRun words f input a b
+    session_front : HasBegunSession spoken limit input a b → HasBegunRun words f input a b
     session_front begun = λ X text ending other.
         let numbered = numbered_tables spoken.texts table in
         let N : Numbering = numbered.0 in
-        let out : IsOut first_pass N words (get f) input text ending = any_numbering X N words (get f) input text ending other in
-        let same : out.0 ≡ Session (grounds N spoken) (at_limit 20000) = one_opening N words (get f) out.0 _ out.1 (opened N numbered.1) in
-        begun N numbered.1 text ending (subst (λ (o : Opening). Follows first_pass o input text ending) same out.2)
+        let out : IsOut built N words (get f) input text ending = any_numbering X N words (get f) input text ending other in
+        let same : out.0 ≡ Session (grounds N spoken) (at_limit limit) = one_opening N words (get f) out.0 _ out.1 (opened N numbered.1) in
+        begun N numbered.1 text ending (subst (λ (o : Opening). Follows built o input text ending) same out.2)
 
 -- ---- where the files and the input are told
 
@@ -131,31 +135,31 @@ module _ (words : List (List ℕ)) (files : Option Files) (left : Option (List �
     refused_begun front = told (λ f input. HasBegunRun words f input a b)
         (λ f is input. refused_front words f r (subst (λ o. IsStatusOf words o (status_of r)) is cause) input a b front)
 
-  module _ (spoken : Spoken) (opened : IfSome files (λ f. IsOpened words f spoken)) (table : IsTable spoken.texts) where
-    opened_at : (f : Files) → files ≡ Some f → IsOpened words f spoken
-    opened_at f is = subst (λ o. IfSome o (λ f. IsOpened words f spoken)) is opened
+  module _ (spoken : Spoken) (limit : ℕ) (opened : IfSome files (λ f. IsOpened words f spoken limit)) (table : IsTable spoken.texts) where
+    opened_at : (f : Files) → files ≡ Some f → IsOpened words f spoken limit
+    opened_at f is = subst (λ o. IfSome o (λ f. IsOpened words f spoken limit)) is opened
 
-    session_written : (status : Status) → IfSome left (λ input. HasWrittenSession spoken 20000 input (ending_of status) a b) → Whole status
-    session_written status written = elim left as (λ l. IfSome l (λ input. HasWrittenSession spoken 20000 input (ending_of status) a b) → IfSome files (λ f. IfSome l (λ input. HasWritten words f input status a b))) [
+    session_written : (status : Status) → IfSome left (λ input. HasWrittenSession spoken limit input (ending_of status) a b) → Whole status
+    session_written status written = elim left as (λ l. IfSome l (λ input. HasWrittenSession spoken limit input (ending_of status) a b) → IfSome files (λ f. IfSome l (λ input. HasWritten words f input status a b))) [
       | None ↦ λ _. elim files as (λ o. IfSome o (λ f. IfSome None (λ input. HasWritten words f input status a b))) [ None ↦ tt | Some f ↦ tt ]
       | Some input ↦ λ w. elim files as (λ o. files ≡ o → IfSome o (λ f. HasWritten words f input status a b)) [
         | None ↦ λ _. tt
-        | Some f ↦ λ is. session_whole words f spoken (opened_at f is) table input a b status w
+        | Some f ↦ λ is. session_whole words f spoken limit (opened_at f is) table input a b status w
       ] refl
     ] written
 
-    pub session_told : (status : Status) → OnTrue (is_definite status) (IfSome left (λ input. HasWrittenSession spoken 20000 input (ending_of status) a b)) → OnTrue (is_definite status) (Whole status)
-    session_told status written = elim (is_definite status) as (λ t. OnTrue t (IfSome left (λ input. HasWrittenSession spoken 20000 input (ending_of status) a b)) → OnTrue t (Whole status)) [
+    pub session_told : (status : Status) → OnTrue (is_definite status) (IfSome left (λ input. HasWrittenSession spoken limit input (ending_of status) a b)) → OnTrue (is_definite status) (Whole status)
+    session_told status written = elim (is_definite status) as (λ t. OnTrue t (IfSome left (λ input. HasWrittenSession spoken limit input (ending_of status) a b)) → OnTrue t (Whole status)) [
       | true ↦ λ w. session_written status w
       | false ↦ λ _. tt
     ] written
 
-    pub session_begun : IfSome left (λ input. HasBegunSession spoken 20000 input a b) → Front
-    session_begun begun = elim left as (λ l. IfSome l (λ input. HasBegunSession spoken 20000 input a b) → IfSome files (λ f. IfSome l (λ input. HasBegunRun words f input a b))) [
+    pub session_begun : IfSome left (λ input. HasBegunSession spoken limit input a b) → Front
+    session_begun begun = elim left as (λ l. IfSome l (λ input. HasBegunSession spoken limit input a b) → IfSome files (λ f. IfSome l (λ input. HasBegunRun words f input a b))) [
       | None ↦ λ _. elim files as (λ o. IfSome o (λ f. IfSome None (λ input. HasBegunRun words f input a b))) [ None ↦ tt | Some f ↦ tt ]
       | Some input ↦ λ w. elim files as (λ o. files ≡ o → IfSome o (λ f. HasBegunRun words f input a b)) [
         | None ↦ λ _. tt
-        | Some f ↦ λ is. session_front words f spoken (opened_at f is) table input a b w
+        | Some f ↦ λ is. session_front words f spoken limit (opened_at f is) table input a b w
       ] refl
     ] begun
 
@@ -173,3 +177,11 @@ session_cause words files ReadFault have is = (have.0, have.1)
 session_cause words files WriteFault have is = tt
 session_cause words files Memory have is = tt
 session_cause words files InputTooLong have is = have
+
+-- a read of the input failed
+pub taken_told : (words : List (List ℕ)) (files : Option Files) (spoken : Spoken) (limit : ℕ) → IfSome files (λ f. IsOpened words f spoken limit) → IsTable spoken.texts → (left now a b : Option (List ℕ))
+    → (taken : List ℕ) × Consumes left now taken × (length taken ≤ 16777216) × HasAnswered spoken limit (whole_lines_of taken) a b → IfSome files (λ f. HasAnsweredTaken words f left now a b)
+taken_told words None spoken limit opened table left now a b (taken, read, short, answered) = tt
+taken_told words (Some f) spoken limit opened table left now a b (taken, read, short, answered) =
+    let lines = subst (λ l. HasAnswered spoken limit l a b) (sym (lines_of_ended taken)) answered in
+    (taken, read, session_whole words f spoken limit opened table (ended_part taken) a b Done (written_whole spoken limit (ended_part taken) a b (omega (arith, short, ended_is_short taken)) lines))

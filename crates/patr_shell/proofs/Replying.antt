@@ -6,7 +6,7 @@ use Rattle.std.specs.Io.KnownBytes.{Appends}
 use Rattle.std.proofs.KnownBytes.{Appends-nil, Appends-trans}
 use Rattle.patr_model.specs.Plain.{plain}
 use Rattle.patr_model.specs.Session.{Grounds, State, IsLineReply, too_long, not_text, spelled, without_cr}
-use Rattle.patr_model.specs.FirstPass.{sentences_alone}
+use Rattle.patr_model.specs.Built.{sentences_alone}
 use Rattle.patr_shell.specs.Spoken.{Spoken, grounds, at_limit}
 use Rattle.patr_shell.specs.Sent.{AppendsFront}
 use Rattle.patr_shell.specs.Answering.{IsReply, AreReplies, HasAnswered, HasBegun}

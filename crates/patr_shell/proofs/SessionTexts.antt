@@ -6,7 +6,7 @@ use Rattle.std.proofs.KnownBytes.{Appends-trans}
 use Rattle.patr_model.specs.Plain.{plain}
 use Rattle.patr_model.specs.Session.{Numbering, AgreesWith, IsQuit, Replied, whole_lines_of, lines_of}
 use Rattle.patr_model.specs.Run.{Ending, Done, InputTooLong, IsSession, ended, quit, too_long}
-use Rattle.patr_model.specs.FirstPass.{first_pass, sentences_alone}
+use Rattle.patr_model.specs.Built.{built, sentences_alone}
 use Rattle.patr_model.specs.Openings.{Answered}
 use Rattle.patr_shell.specs.Spoken.{Spoken, grounds, at_limit}
 use Rattle.patr_shell.specs.Sent.{AppendsFront}
@@ -101,7 +101,7 @@ module _ (spoken : Spoken) (limit : ℕ) where
         subst (AppendsFront a b) (sym at.1) (front_longer a b h.text at.0 h.front)
 
     abbrev IsText : List ℕ → List ℕ → Ending → Type 0
-    IsText input text ending = IsSession first_pass (grounds N spoken) (at_limit limit) input text ending
+    IsText input text ending = IsSession built (grounds N spoken) (at_limit limit) input text ending
 
     lines_go_on : (bytes more : List ℕ) → lines_of (bytes ++ more) ≡ whole_lines_of bytes ++ (whole_lines_of (last_piece bytes ++ more) ++ last_line (last_piece (bytes ++ more)))
     lines_go_on bytes more =

@@ -4,7 +4,7 @@ use Rattle.std.specs.Io.KnownBytes.{Appends}
 use Rattle.patr_model.specs.Plain.{plain}
 use Rattle.patr_model.specs.Session.{Numbering, AgreesWith, IsLineReply, line, cut_at, without_cr, without_empty}
 use Rattle.patr_model.specs.Run.{Ending, IsSession}
-use Rattle.patr_model.specs.FirstPass.{sentences_alone, first_pass}
+use Rattle.patr_model.specs.Built.{sentences_alone, built}
 use Rattle.patr_shell.specs.Spoken.{Spoken, grounds, at_limit}
 use Rattle.patr_shell.specs.Sent.{AppendsFront}
 use Rattle.patr_shell.specs.declared.session.AnswerFault.{AnswerFault}
@@ -18,6 +18,15 @@ last_of first (next ∷ rest) = last_of next rest
 -- what stands behind the last LF
 abbrev pub last_piece : List ℕ → List ℕ
 last_piece bytes = last_of (cut_at (nat_eq 10) bytes).first (cut_at (nat_eq 10) bytes).rest
+
+-- the bytes up to the last LF, by the pieces between them
+abbrev pub joined_by_feeds : List ℕ → List (List ℕ) → List ℕ
+joined_by_feeds first [] = []
+joined_by_feeds first (next ∷ rest) = first ++ 10 ∷ joined_by_feeds next rest
+
+-- the bytes up to the last LF
+abbrev pub ended_part : List ℕ → List ℕ
+ended_part bytes = joined_by_feeds (cut_at (nat_eq 10) bytes).first (cut_at (nat_eq 10) bytes).rest
 
 -- no LF stands in the bytes
 abbrev pub HasNoFeed : List ℕ → Type 0
@@ -65,10 +74,10 @@ is_write_fault _ = false
 -- the text of a session over the whole input, whatever the numbering, was written
 pub record HasWrittenSession (spoken : Spoken) (limit : ℕ) (input : List ℕ) (ending : Ending) (old new : Option (List ℕ)) : Type 0 where
   pub text : List ℕ
-  pub is_session : (N : Numbering) → AgreesWith N spoken.texts → IsSession first_pass (grounds N spoken) (at_limit limit) input text ending
+  pub is_session : (N : Numbering) → AgreesWith N spoken.texts → IsSession built (grounds N spoken) (at_limit limit) input text ending
   pub appended : Appends old new text
 
 -- a front of each text of a session over the input was written
 abbrev pub HasBegunSession : Spoken → ℕ → List ℕ → Option (List ℕ) → Option (List ℕ) → Type 0
 HasBegunSession spoken limit input old new = (N : Numbering) → AgreesWith N spoken.texts → (text : List ℕ) (ending : Ending)
-    → IsSession first_pass (grounds N spoken) (at_limit limit) input text ending → AppendsFront old new text
+    → IsSession built (grounds N spoken) (at_limit limit) input text ending → AppendsFront old new text

@@ -8,14 +8,16 @@ use Rattle.patr_shell.specs.declared.edge.Edge.{Edge}
 use Rattle.patr_shell.specs.Edges.{is_passive}
 use Rattle.patr_shell.specs.Numbered.{places}
 
+-- a chart: the number of words of its sentence, and its edges in the order in which they came
 pub record Charted : Type 0 where
   pub words : ℕ
   pub edges : List Edge
 
--- the passive edges that start at s, and the active ones that end there
+-- a passive edge that starts at s
 abbrev pub starts_at : ℕ → Edge → Bool
 starts_at s e = cond (is_passive e) (nat_eq e.start s) false
 
+-- an active edge that ends at s
 abbrev pub ends_at : ℕ → Edge → Bool
 ends_at s e = cond (is_passive e) false (nat_eq e.end s)
 
@@ -23,6 +25,7 @@ ends_at s e = cond (is_passive e) false (nat_eq e.end s)
 abbrev pub is_partner : Edge → Edge → Bool
 is_partner e = cond (is_passive e) (ends_at e.start) (starts_at e.end)
 
+-- the numbers of the edges of the list that are adjacent to e, rising
 abbrev pub partners_in : List Edge → Edge → List ℕ
 partners_in es e = places (is_partner e) 0 es
 
@@ -31,6 +34,7 @@ abbrev pub partners_of : List Edge → ℕ → Option Edge → List ℕ
 partners_of es k None = []
 partners_of es k (Some e) = partners_in (take k es) e
 
+-- the numbers of the edges that came before edge k and are adjacent to it, rising
 abbrev pub partners : List Edge → ℕ → List ℕ
 partners es k = partners_of es k (slice_get es k)
 
@@ -55,6 +59,7 @@ pub record IsMadeOf (e a p : Edge) : Type 0 where
   pub size : e.size ≡ a.size + p.size
   pub kind : IsNext a.kind e.kind
 
+-- where an edge comes from: it has no daughters, or it is made of two edges that are there
 abbrev pub HasGround : List Edge → Edge → Option Back → Type 0
 HasGround es e None = IsAlone e.kind e
 HasGround es e (Some b) = (a : Edge) × (p : Edge) × (slice_get es b.active ≡ Some a) × (slice_get es b.passive ≡ Some p) × IsMadeOf e a p
@@ -65,24 +70,29 @@ pub record IsEdgeAfter (words : ℕ) (es : List Edge) (e : Edge) : Type 0 where
   pub within : e.end ≤ words
   pub ground : HasGround es e e.back
 
+-- each edge may follow those before it
 abbrev pub AreEdges : ℕ → List Edge → Type 0
 AreEdges words es = (k : ℕ) (e : Edge) → slice_get es k ≡ Some e → IsEdgeAfter words (take k es) e
 
--- What an edge stands for, by the derivations of those before it.
+-- the derivation of an edge without daughters: an entry as a leaf, or a rule that has begun
 abbrev pub alone : EdgeKind → Edge → Derivation
 alone (Entry entry) e = Leaf entry 0 e.start e.end
 alone (Rule rule seen slots) e = Begin rule 0 e.start
 
+-- the derivation with this number
 abbrev pub derivation_at : List Derivation → ℕ → Derivation
 derivation_at ds k = get_or ds k (Begin 0 0 0)
 
+-- an edge without daughters stands for its root alone, and one made of two edges for their derivations, the active one extended by the passive one
 abbrev pub derived_by : List Derivation → Edge → Option Back → Derivation
 derived_by ds e None = alone e.kind e
 derived_by ds e (Some b) = Extend (derivation_at ds b.active) (derivation_at ds b.passive)
 
+-- the derivation of an edge, by those of the edges before it
 abbrev pub derived : List Derivation → Edge → Derivation
 derived ds e = derived_by ds e e.back
 
+-- these derivations, and then those of the edges that follow
 abbrev pub derivations_from : List Derivation → List Edge → List Derivation
 derivations_from ds [] = ds
 derivations_from ds (e ∷ es) = derivations_from (ds ++ derived ds e ∷ []) es
@@ -91,6 +101,7 @@ derivations_from ds (e ∷ es) = derivations_from (ds ++ derived ds e ∷ []) es
 abbrev pub derivations : List Edge → List Derivation
 derivations es = derivations_from [] es
 
+-- the derivation of edge k
 abbrev pub tree : List Edge → ℕ → Derivation
 tree es k = derivation_at (derivations es) k
 

@@ -13,6 +13,7 @@ abbrev pub KindFits : Rules → EdgeKind → Type 0
 KindFits g (Entry e) = e < length g.entries
 KindFits g (Rule r s n) = (w : RuleVariant) × (rule_variant g r 0 ≡ Some w) × (suc n ≡ length w.categories) × (s ≤ n)
 
+-- each edge is of an entry or a rule that is there
 abbrev pub KindsFit : Rules → List Edge → Type 0
 KindsFit g es = (k : ℕ) (e : Edge) → slice_get es k ≡ Some e → KindFits g e.kind
 

@@ -6,6 +6,7 @@ use Rattle.patr_shell.specs.Lists.{Numbers, numbers}
 use Rattle.patr_shell.specs.Charted.{Charted, starts_at, ends_at, partners, AreEdges}
 use Rattle.patr_shell.specs.Numbered.{places}
 
+-- the chart that the fields stand for
 abbrev pub charted : Inside → Charted
 charted c = record { words = c.words; edges = c.edges.items }
 
@@ -20,5 +21,6 @@ pub record IsIndexed (words : ℕ) (es : List Edge) (ns : List ℕ) (S E : Numbe
   pub counts_length : length ns ≡ length es
   pub counts : (k d : ℕ) → k < length es → get_or ns k d ≡ length (partners es k)
 
+-- the fields of a chart fit together: its lists and its counts are those of its edges
 abbrev pub IsKept : Inside → Type 0
 IsKept c = IsIndexed c.words c.edges.items c.counts.items (numbers c.starting.items) (numbers c.ending.items)

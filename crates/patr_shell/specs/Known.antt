@@ -17,6 +17,7 @@ HasWords s = (e k : ℕ) (v : EntryVariant) → entry_variant s.rules e k ≡ So
 abbrev pub between_tabs : List ℕ → List (List ℕ)
 between_tabs text = without_empty (slice_split (λ b. nat_eq b 9) text)
 
+-- the numbers of symbols
 abbrev pub ids : List Id → List ℕ
 ids ws = map (λ i. i.0) ws
 

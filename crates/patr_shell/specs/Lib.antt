@@ -6,6 +6,9 @@ pub mod Edges
 pub mod Kept
 pub mod Known
 pub mod LexiconReading
+pub mod LexiconStates
+pub mod LexiconRecords
+pub mod LexiconParts
 pub mod Listed
 pub mod Lists
 pub mod Loaded
@@ -18,4 +21,5 @@ pub mod Spoken
 pub mod Standing
 pub mod Tasks
 pub mod Whole
+pub mod Words
 pub mod Writing

@@ -5,7 +5,7 @@ use Rattle.patr_text.specs.declared.symbols.Id.{Id}
 use Rattle.patr_model.specs.Derivation.{RuleVariant, EntryVariant}
 use Rattle.patr_shell.specs.declared.language.Language.TheInside.{Inside}
 use Rattle.patr_shell.specs.declared.language.Rule.{Rule}
-use Rattle.patr_shell.specs.declared.language.Entry.{Entry}
+use Rattle.patr_shell.specs.declared.lexicon.Entry.{Entry}
 use Rattle.patr_shell.specs.Lists.{Numbers, numbers}
 use Rattle.patr_shell.specs.Numbered.{places}
 use Rattle.patr_shell.specs.Spoken.{Spoken, rules_of, rule_variants, entry_variants, AreHeldIn, HasFewDaughters, has_mother, has_word}

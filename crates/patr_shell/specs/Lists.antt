@@ -4,9 +4,11 @@ use Rattle.std.proofs.Common.{Vec, Global}
 use Rattle.patr_shell.specs.declared.edge.Edge.{Edge}
 use Rattle.patr_shell.specs.Edges.{is_passive}
 
+-- for each position of the sentence, the numbers of edges
 abbrev pub Numbers : Type 0
 Numbers = List (List ℕ)
 
+-- the lists that vectors of edge numbers hold
 abbrev pub numbers : List (Vec ℕ Global) → Numbers
 numbers lists = map (λ v. v.items) lists
 

@@ -6,8 +6,8 @@ use Rattle.patr_grammar.specs.declared.grammar.RuleText.{RuleText}
 use Rattle.patr_grammar.specs.declared.grammar.Item.{Item}
 use Rattle.patr_grammar.specs.declared.grammar.Grammar.{Grammar as GrammarText}
 use Rattle.patr_shell.specs.LexiconReading.{StandsFor as StandForEntries}
-use Rattle.patr_shell.specs.Outcome.{HasBadGrammar, HasBadLexicon, HasColumn}
-use Rattle.patr_shell.specs.declared.language.Entry.{Entry}
+use Rattle.patr_shell.specs.Outcome.{HasBadGrammar, HasBadLexicon}
+use Rattle.patr_shell.specs.declared.lexicon.Entry.{Entry}
 use Rattle.patr_shell.specs.declared.refusal.OpeningFault.{OpeningFault}
 use Rattle.patr_shell.specs.declared.refusal.OpeningFault.TheVariants.{Refused, Read, Memory}
 use Rattle.patr_shell.specs.declared.refusal.Refusal.TheVariants.{Grammar, Lexicon}
@@ -26,6 +26,7 @@ pub record ReadsGrammar (files : Option Files) (name : List ℕ) (table : List (
   pub file : HasFile files name bytes
   pub short : length bytes ≤ 4194304
   pub stands : StandsFor table bytes grammar
+  pub few : length grammar.rules.items ≤ length bytes
 
 -- the file of this name was not read as a grammar
 abbrev pub IsGrammarFault : Option Files → List ℕ → OpeningFault → Type 0
@@ -38,8 +39,9 @@ pub record ReadsLexicon (files : Option Files) (name : List ℕ) (table : List (
   pub file : HasFile files name bytes
   pub short : length bytes ≤ 16777216
   pub stands : StandForEntries table bytes entries
+  pub few : length entries ≤ length bytes
 
 -- the file of this name was not read as a lexicon
 abbrev pub IsLexiconFault : Option Files → List ℕ → OpeningFault → Type 0
-IsLexiconFault files name (Refused (Lexicon trouble)) = HasBadLexicon files name trouble × HasColumn (Lexicon trouble)
+IsLexiconFault files name (Refused (Lexicon trouble)) = HasBadLexicon files name trouble
 IsLexiconFault files name fault = IsLoadFault fault

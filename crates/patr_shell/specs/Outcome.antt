@@ -1,23 +1,27 @@
 -- What a run writes, how it ends, and why.
 use Rattle.std.specs.Prelude.{◌≡◌, ◌⊎◌, ◌≤◌, ℕ, List, length, Bool, true, false, Option, Some, None, Result, Err, ⊤, codes}
 use Rattle.std.specs.FinMap.{get}
-use Rattle.std.specs.Io.KnownBytes.{Appends}
+use Rattle.std.specs.Io.KnownBytes.{Appends, Consumes}
 use Rattle.patr_io.specs.Causes.{Rose}
 use Rattle.patr_io.specs.Files.{Files, HasFile, HasLongFile, IsAbsent}
 use Rattle.patr_model.specs.Session.{Numbering, AgreesWith, line}
 use Rattle.patr_model.specs.Run.{Ending, Done as IsDone, BadWords as AreBadWords, BadGrammar as IsBadGrammar, BadLexicon as IsBadLexicon, NotRead, InputTooLong as IsInputTooLong, Setup, Session, usage, IsOpening, IsOut}
-use Rattle.patr_model.specs.FirstPass.{PlainRule, PlainEntry, ReadsRules, ReadsEntries, RefusesRules, RefusesEntries, rules_line, entries_line, two_words, first_pass}
-use Rattle.patr_grammar.specs.Reading.{trouble_of}
-use Rattle.patr_shell.specs.LexiconReading.{IsAtLineStart, trouble_of as entries_trouble_of}
+use Rattle.patr_model.specs.Productions.{Grammar}
+use Rattle.patr_model.specs.GrammarText.{ReadsGrammar, RefusesGrammar, grammar_fault_line}
+use Rattle.patr_model.specs.LexiconText.{EntryText, ReadsLexicon, RefusesLexicon, lexicon_fault_line}
+use Rattle.patr_model.specs.CommandLine.{command_words}
+use Rattle.patr_model.specs.Built.{stage, built}
+use Rattle.patr_grammar.specs.Reading.{fault_of}
+use Rattle.patr_shell.specs.LexiconReading.{fault_of as lexicon_fault_of}
 use Rattle.patr_shell.specs.Spoken.{Spoken, grounds, at_limit}
 use Rattle.patr_shell.specs.Sent.{AppendsFront}
+use Rattle.patr_shell.specs.Answering.{ended_part}
 use Rattle.patr_shell.specs.declared.status.GrammarTrouble.{GrammarTrouble}
 use Rattle.patr_shell.specs.declared.status.GrammarTrouble.TheVariants as grammar_trouble
 use Rattle.patr_shell.specs.declared.status.LexiconTrouble.{LexiconTrouble}
 use Rattle.patr_shell.specs.declared.status.LexiconTrouble.TheVariants as lexicon_trouble
 use Rattle.patr_shell.specs.declared.status.Status.{Status}
 use Rattle.patr_shell.specs.declared.status.Status.TheVariants.{Done, BadWords, BadGrammar, BadLexicon, ReadFault, WriteFault, Memory, InputTooLong}
-use Rattle.patr_shell.specs.declared.command_line.FileNames.{FileNames}
 use Rattle.patr_shell.specs.declared.refusal.Refusal.{Refusal}
 use Rattle.patr_shell.specs.declared.refusal.Refusal.TheVariants as refusal
 use Rattle.patr_shell.specs.declared.refusal.OpeningFault.{OpeningFault}
@@ -52,10 +56,12 @@ is_refusal (BadGrammar trouble) = true
 is_refusal (BadLexicon trouble) = true
 is_refusal status = false
 
+-- the run ended since a read failed
 abbrev pub ended_by_read : Status → Bool
 ended_by_read ReadFault = true
 ended_by_read status = false
 
+-- the run ended since a write failed
 abbrev pub ended_by_write : Status → Bool
 ended_by_write WriteFault = true
 ended_by_write status = false
@@ -80,32 +86,27 @@ answer_status answer_fault.Memory = Memory
 
 -- ---- the words and the files
 
--- names as they are meant
-abbrev pub setup_of : Option FileNames → Option Setup
-setup_of None = None
-setup_of (Some names) = Some (record { grammar = names.grammar.now; lexicon = names.lexicon.now; limit = 20000 })
-
 -- the file of this name stands for a grammar, where the files are told
 abbrev pub HasGrammar : Option Files → List ℕ → Type 0
-HasGrammar files name = (bytes : List ℕ) × (rules : List PlainRule) × HasFile files name bytes × (length bytes ≤ 4194304) × ReadsRules bytes rules
+HasGrammar files name = (bytes : List ℕ) × (g : Grammar (List ℕ)) × HasFile files name bytes × (length bytes ≤ 4194304) × ReadsGrammar stage bytes g
 
 -- the file of this name stands for a lexicon, where the files are told
 abbrev pub HasLexicon : Option Files → List ℕ → Type 0
-HasLexicon files name = (bytes : List ℕ) × (entries : List PlainEntry) × HasFile files name bytes × (length bytes ≤ 16777216) × ReadsEntries bytes entries
+HasLexicon files name = (bytes : List ℕ) × (entries : List EntryText) × HasFile files name bytes × (length bytes ≤ 16777216) × ReadsLexicon stage bytes entries
 
 -- the file of this name stands for no grammar, and why
 abbrev pub HasBadGrammar : Option Files → List ℕ → GrammarTrouble → Type 0
 HasBadGrammar files name grammar_trouble.TooLong = HasLongFile files name 4194304
-HasBadGrammar files name (grammar_trouble.Text cause) = (bytes : List ℕ) × HasFile files name bytes × (length bytes ≤ 4194304) × RefusesRules bytes (trouble_of cause)
+HasBadGrammar files name (grammar_trouble.Text cause) = (bytes : List ℕ) × HasFile files name bytes × (length bytes ≤ 4194304) × RefusesGrammar stage bytes (fault_of cause)
 
 -- the file of this name stands for no lexicon, and why
 abbrev pub HasBadLexicon : Option Files → List ℕ → LexiconTrouble → Type 0
 HasBadLexicon files name lexicon_trouble.TooLong = HasLongFile files name 16777216
-HasBadLexicon files name (lexicon_trouble.Text cause) = (bytes : List ℕ) × HasFile files name bytes × (length bytes ≤ 16777216) × RefusesEntries bytes (entries_trouble_of cause)
+HasBadLexicon files name (lexicon_trouble.Text cause) = (bytes : List ℕ) × HasFile files name bytes × (length bytes ≤ 16777216) × RefusesLexicon stage bytes (lexicon_fault_of cause)
 
--- the words name these files
+-- the words are of the form, and this is meant
 abbrev pub Names : List (List ℕ) → Setup → Type 0
-Names words setup = two_words words ≡ Some setup
+Names words setup = command_words words ≡ Some setup
 
 -- a run with these words looks at the file of this name: the grammar's, and the lexicon's where the grammar is one
 pub data LooksAt (words : List (List ℕ)) (files : Option Files) (name : List ℕ) : Type 0 where
@@ -116,19 +117,19 @@ pub data LooksAt (words : List (List ℕ)) (files : Option Files) (name : List �
 abbrev pub CannotLoad : Option Files → ℕ → ℕ → Option (List ℕ) → List ℕ → Type 0
 CannotLoad files before now failed_name name = (Rose before now × (failed_name ≡ Some name)) ⊎ IsAbsent files name
 
--- the words and the files come to a session with this language, whatever the numbering
-abbrev pub IsOpened : List (List ℕ) → Files → Spoken → Type 0
-IsOpened words files spoken = (N : Numbering) → AgreesWith N spoken.texts → IsOpening first_pass N words (get files) (Session (grounds N spoken) (at_limit 20000))
+-- the words and the files come to a session with this language under this limit, whatever the numbering
+abbrev pub IsOpened : List (List ℕ) → Files → Spoken → ℕ → Type 0
+IsOpened words files spoken limit = (N : Numbering) → AgreesWith N spoken.texts → IsOpening built N words (get files) (Session (grounds N spoken) (at_limit limit))
 
 -- the words name two files that a session stands on
 abbrev pub HaveSession : List (List ℕ) → Option Files → Type 0
 HaveSession words files = (setup : Setup) × Names words setup × HasGrammar files setup.grammar × HasLexicon files setup.lexicon
 
--- A status has its cause: for BadWords the words are no names, for every other but want of memory and a fault of writing they are,
+-- A status has its cause: for BadWords the words are not of the form, for every other but want of memory and a fault of writing they are,
 -- for a refusal the file has the trouble that the status carries, and a session has both files.
 abbrev pub IsStatusOf : List (List ℕ) → Option Files → Status → Type 0
 IsStatusOf words files Done = HaveSession words files
-IsStatusOf words files BadWords = two_words words ≡ None
+IsStatusOf words files BadWords = command_words words ≡ None
 IsStatusOf words files (BadGrammar trouble) = (setup : Setup) × Names words setup × HasBadGrammar files setup.grammar trouble
 IsStatusOf words files (BadLexicon trouble) = (setup : Setup) × Names words setup × HasGrammar files setup.grammar × HasBadLexicon files setup.lexicon trouble
 IsStatusOf words files ReadFault = (setup : Setup) × Names words setup
@@ -142,17 +143,13 @@ status_of refusal.Words = BadWords
 status_of (refusal.Grammar trouble) = BadGrammar trouble
 status_of (refusal.Lexicon trouble) = BadLexicon trouble
 
--- where a lexicon is refused at a line, it is at the line's first column
-abbrev pub HasColumn : Refusal → Type 0
-HasColumn (refusal.Lexicon (lexicon_trouble.Text cause)) = IsAtLineStart cause
-HasColumn r = ⊤
-
 -- the opening fails for its cause
 abbrev pub IsFaultOf : List (List ℕ) → Option Files → OpeningFault → Type 0
-IsFaultOf words files (fault.Refused r) = IsStatusOf words files (status_of r) × HasColumn r
+IsFaultOf words files (fault.Refused r) = IsStatusOf words files (status_of r)
 IsFaultOf words files fault.Read = IsStatusOf words files ReadFault
 IsFaultOf words files fault.Memory = ⊤
 
+-- the opening failed at a read
 abbrev pub is_read_fault : {T : Type 0} → Result T OpeningFault → Bool
 is_read_fault (Err fault.Read) = true
 is_read_fault result = false
@@ -161,9 +158,9 @@ is_read_fault result = false
 abbrev pub refusal_line : Refusal → List ℕ
 refusal_line refusal.Words = usage
 refusal_line (refusal.Grammar grammar_trouble.TooLong) = line (codes "error: grammar: more than 4194304 bytes")
-refusal_line (refusal.Grammar (grammar_trouble.Text cause)) = rules_line (trouble_of cause)
+refusal_line (refusal.Grammar (grammar_trouble.Text cause)) = grammar_fault_line (fault_of cause)
 refusal_line (refusal.Lexicon lexicon_trouble.TooLong) = line (codes "error: lexicon: more than 16777216 bytes")
-refusal_line (refusal.Lexicon (lexicon_trouble.Text cause)) = entries_line (entries_trouble_of cause)
+refusal_line (refusal.Lexicon (lexicon_trouble.Text cause)) = lexicon_fault_line (lexicon_fault_of cause)
 
 -- how a run ends whose refusal is to be written: by it, or since it could not be
 abbrev pub IsEndOf : Refusal → Status → Type 0
@@ -174,9 +171,19 @@ IsEndOf r status = (status ≡ status_of r) ⊎ (status ≡ WriteFault) ⊎ (sta
 -- the text of a run with this status, whatever the numbering, was written
 pub record HasWritten (words : List (List ℕ)) (files : Files) (input : List ℕ) (status : Status) (old new : Option (List ℕ)) : Type 0 where
   pub text : List ℕ
-  pub is_out : (N : Numbering) → IsOut first_pass N words (get files) input text (ending_of status)
+  pub is_out : (N : Numbering) → IsOut built N words (get files) input text (ending_of status)
   pub appended : Appends old new text
 
 -- a front of each text of a run was written
 abbrev pub HasBegunRun : List (List ℕ) → Files → List ℕ → Option (List ℕ) → Option (List ℕ) → Type 0
-HasBegunRun words files input old new = (N : Numbering) (text : List ℕ) (ending : Ending) → IsOut first_pass N words (get files) input text ending → AppendsFront old new text
+HasBegunRun words files input old new = (N : Numbering) (text : List ℕ) (ending : Ending) → IsOut built N words (get files) input text ending → AppendsFront old new text
+
+-- some bytes of the input were taken, and what was written is the text of a run over those up to the last LF: each line whose end was taken is answered, and nothing else
+abbrev pub HasAnsweredTaken : List (List ℕ) → Files → Option (List ℕ) → Option (List ℕ) → Option (List ℕ) → Option (List ℕ) → Type 0
+HasAnsweredTaken words files left left' old new = (taken : List ℕ) × Consumes left left' taken × HasWritten words files (ended_part taken) Done old new
+
+-- The words are of the form, the files that they name are told and of the notation, and the input is told and within its size.
+pub record MayBeDone (words : List (List ℕ)) (files : Option Files) (left : Option (List ℕ)) : Type 0 where
+  pub told : (f : Files) × (files ≡ Some f)
+  pub session : HaveSession words files
+  pub input : (bytes : List ℕ) × (left ≡ Some bytes) × (length bytes ≤ 16777216)

@@ -11,6 +11,7 @@ use Rattle.patr_shell.specs.Edges.{item_of}
 use Rattle.patr_shell.specs.Charted.{tree}
 use Rattle.patr_shell.specs.Tasks.{own_category}
 
+-- there is a category, and it is c
 abbrev pub is_category : ℕ → Option ℕ → Bool
 is_category c None = false
 is_category c (Some d) = nat_eq d c
@@ -19,10 +20,12 @@ is_category c (Some d) = nat_eq d c
 abbrev pub is_whole : Rules → ℕ → Edge → Bool
 is_whole g to e = nat_eq e.end to && is_category g.start (own_category g e.kind)
 
+-- there is an edge, and it is whole
 abbrev pub whole_at : Rules → ℕ → Option Edge → Bool
 whole_at g to None = false
 whole_at g to (Some e) = is_whole g to e
 
+-- the number of an analysis's edge
 abbrev pub edge_of : Analysis → ℕ
 edge_of a = a.edge
 
@@ -30,6 +33,7 @@ edge_of a = a.edge
 abbrev pub HasKey : List Edge → Analysis → Type 0
 HasKey es a = (a.edge < length es) × (map item_of a.key.items ≡ key (tree es a.edge))
 
+-- the derivations of the edges with these numbers
 abbrev pub trees : List Edge → List ℕ → List Derivation
 trees es ns = map (λ k. tree es k) ns
 

@@ -1,6 +1,7 @@
 //! A grammar and a lexicon as sentences are parsed by them.
 ghost use Rattle.std.specs.Prelude.{◌≡◌, suc, ◌<◌, ◌^◌, List, length, map, Some, slice_get, IfOk, IfSome, IfNone, false};
 ghost use Rattle.patr_text.specs.Texts.{holds};
+ghost use Rattle.patr_model.specs.Table.{IsTable};
 ghost use Rattle.patr_model.specs.Derivation.{RuleVariant, EntryVariant, rule_variant, entry_variant};
 ghost use Rattle.std.specs.List.{AllByRecursion};
 ghost use Rattle.patr_shell.specs.Spoken.{rules_of, rule_variants, entry_of, entry_variants, IsRuleHeld, IsEntryHeld, AreHeldIn, HasFewDaughters, has_mother, has_word};
@@ -11,6 +12,7 @@ ghost use Rattle.patr_shell.specs.Numbered.{places};
 ghost use Rattle.patr_shell.specs.Known.{HasWords};
 
 use crate::Memory;
+use crate::lexicon::Entry;
 use crate::lists::{empty_lists, list_at, put};
 use patr_text::{Id, Symbols};
 use std::alloc::{AllocError, Global};
@@ -21,13 +23,6 @@ use std::marker::Model;
 pub struct Rule {
     pub mother: Id,
     pub daughters: Vec<Id>,
-}
-
-/// An entry: a word, and its category.
-#[derive(Clone, Copy)]
-pub struct Entry {
-    pub word: Id,
-    pub category: Id,
 }
 
 /// A grammar's rules and a lexicon's entries, found by mother and by word.
@@ -98,6 +93,7 @@ impl Language {
         requires few_entries { length entries.items < 2 ^ 32 }
         requires few_daughters { AllByRecursion HasFewDaughters rules.items }
         ensures texts { IfOk result (λ language. language.texts ≡ symbols) }
+        ensures table { IfOk result (λ language. IsTable language.texts) }
         ensures rules { IfOk result (λ language. language.rules ≡ rules_of rules.items entries.items start) }
     {
         let count = symbols.len() as usize;

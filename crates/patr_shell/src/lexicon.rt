@@ -1,12 +1,28 @@
 //! The reader of a lexicon.
-ghost use Rattle.std.specs.Prelude.{◌≡◌, ◌+◌, ◌-◌, ◌^◌, ◌<◌, ◌≤◌, min, length, IfOk, IfErr};
-ghost use Rattle.std.specs.Option.{option_copied};
-ghost use Rattle.patr_model.specs.FirstPass.{field};
+//!
+//! A first pass over the lines looks for bad characters. A second one goes from line to line with a state: the
+//! record that has begun, as far as it matters, and the marker of its last field.
+ghost use Rattle.std.specs.Prelude.{◌≡◌, ◌+◌, ◌-◌, ◌^◌, ◌<◌, ◌≤◌, List, length, Result, Ok, IfOk, IfErr};
+ghost use Rattle.patr_model.specs.LexiconLines.{lines, fields_of};
+ghost use Rattle.patr_model.specs.LexiconText.{EntryText as Text, EntryFault, read_fields};
+ghost use Rattle.patr_model.specs.Renaming.{Each};
+ghost use Rattle.patr_model.specs.Built.{stage};
 ghost use Rattle.patr_text.specs.Texts.{Extends};
-ghost use Rattle.patr_shell.specs.LexiconReading.{StandsFor, IsRefusedFor, IsFirstLine, is_word, IsFirstEntry, StopsThere};
+ghost use Rattle.patr_shell.specs.LexiconReading.{StandsFor, IsRefusedFor, IsEntryOf};
+ghost use Rattle.patr_shell.specs.LexiconStates.{FailsFor, ended_before, most_texts_of, IsKept};
 
-use crate::language::Entry;
-use patr_text::{Fault, Symbols};
+mod gloss;
+mod line;
+mod record;
+mod state;
+#[cfg(test)]
+mod tests;
+mod words;
+
+use line::{bad_token, cut_line};
+use patr_text::{Fault, Id, Symbols};
+use record::Record;
+use state::{State, Step};
 use std::alloc::Global;
 use thiserror::Error;
 
@@ -16,18 +32,41 @@ pub enum LexiconCause {
     /// The file is not UTF-8. `at` is the length, in bytes, of its longest front that is.
     #[error("lexicon: not UTF-8 at byte {at}")]
     NotUtf8 { at: u64 },
-    /// A line, from 1, is not the one expected there. The column is 1.
+    /// A control character that is no white space stands outside comments.
+    #[error("lexicon {line}:{column}: bad character")]
+    BadToken { line: u32, column: u32 },
+    /// Text stands before the first `\w`, or a `\w` field is empty.
+    #[error("lexicon {line}: no word")]
+    NoWord { line: u32 },
+    /// A `\w` field has more than one word.
+    #[error("lexicon {line}: several words")]
+    SeveralWords { line: u32 },
+    /// A record's last `\c` field has not exactly one word, or there is none. The line is that of its `\w`.
+    #[error("lexicon {line}: no category")]
+    NoCategory { line: u32 },
+    /// A token of features stands here.
     #[error("lexicon {line}:{column}: not built yet")]
     LaterForm { line: u32, column: u32 },
 }
 
-/// The entries of a lexicon, whose words and categories are held by the symbols from then on.
+/// An entry of a lexicon, by the numbers of its texts.
+#[derive(Clone, Copy, Debug, PartialEq, Eq)]
+pub struct Entry {
+    /// The line of its `\w`, from 1.
+    pub line: u32,
+    pub word: Id,
+    pub category: Id,
+    /// None where the gloss is empty or there is none.
+    pub gloss: Option<Id>,
+}
+
+/// The entries of a lexicon, in order, whose words, categories and glosses are held by the symbols from
+/// then on.
 ///
-/// A lexicon is pairs of lines, `\w WORD` and `\c CATEGORY`, each of which ends with LF, the last maybe
-/// not. A word is one or more bytes, none of them white space or a control character. It is refused
-/// exactly where it is not UTF-8, and else exactly where a line is not the one expected there: the first
-/// such line, or the one behind the last where a category is missing. Other failures are for want of
-/// memory. The symbols keep the texts that they hold, whatever the answer.
+/// It is refused for the first of these that there is: it is not UTF-8; a bad character; text before the
+/// first `\w`; the first record that stands for no entry, by its word, its category or its features. A
+/// record with features is refused, since those are not built yet. Other failures are for want of memory.
+/// The symbols keep the texts that they hold, whatever the answer.
 pub fn read_lexicon(
     alloc: Global,
     symbols: &mut Symbols,
@@ -41,7 +80,7 @@ pub fn read_lexicon(
     ensures few { IfOk result (λ entries. length entries.items ≤ length bytes.now) }
 {
     match std::str::from_utf8(bytes) {
-        Ok(text) => read_entries(alloc, symbols, text),
+        Ok(text) => read_text(alloc, symbols, text),
         Err(error) => Err(Fault::Refused(LexiconCause::NotUtf8 {
             at: error.valid_up_to() as u64,
         })),
@@ -49,7 +88,7 @@ pub fn read_lexicon(
 }
 
 /// The entries of a whole text.
-fn read_entries(
+fn read_text(
     alloc: Global,
     symbols: &mut Symbols,
     text: &str,
@@ -61,159 +100,62 @@ fn read_entries(
     ensures growth { length symbols.new ≤ length symbols.old + length text.now }
     ensures few { IfOk result (λ entries. length entries.items ≤ length text.now) }
 {
-    let mut entries = Vec::new(alloc);
-    let mut rest = text;
-    let mut line = 1;
-    while !rest.is_empty() {
-        let (entry, behind) = read_entry(symbols, rest, line)?;
-        entries.push(entry)?;
-        rest = behind;
-        line += 2;
+    if let Some(place) = bad_token(text) {
+        return Err(Fault::Refused(LexiconCause::BadToken {
+            line: place.line,
+            column: place.column,
+        }));
     }
-    Ok(entries)
+    read_records(alloc, symbols, text)
 }
 
-/// The entry of the first two lines of a text that is not empty, and what stands behind them. `line` is
-/// the number of the first.
-fn read_entry<'a>(
+/// The entries of a text without bad characters.
+fn read_records(
+    alloc: Global,
     symbols: &mut Symbols,
-    text: &'a str,
-    line: u32,
-) -> Result<(Entry, &'a str), Fault<LexiconCause>>
-    requires some { 0 < length text.now }
-    requires room { length symbols.old + length text.now < 2 ^ 32 - 1 }
-    requires line { line + length text.now < 2 ^ 32 }
-    ensures reads { IfOk result (λ read. IsFirstEntry symbols.new text.now line read.0 read.1.now) }
-    ensures refused { IfErr result (λ fault. StopsThere text.now line fault) }
+    text: &str,
+) -> Result<Vec<Entry>, Fault<LexiconCause>>
+    requires { length symbols.old + length text.now < 2 ^ 32 - 1 }
+    ensures reads { IfOk result (λ entries. (texts : List Text) × (read_fields stage (fields_of (lines text.now)) ≡ Ok texts) × Each (IsEntryOf symbols.new) entries.items texts) }
+    ensures refused { IfErr result (λ fault. FailsFor (read_fields stage (fields_of (lines text.now))) fault) }
     ensures extends { Extends symbols.old symbols.new }
-    ensures growth { length symbols.new ≤ length symbols.old + min 2 (length text.now) }
+    ensures growth { length symbols.new ≤ length symbols.old + length text.now }
+    ensures few { IfOk result (λ entries. length entries.items ≤ length text.now) }
 {
-    let (word_line, rest) = cut_line(text);
-    let Some(word) = field(word_line, 'w') else {
-        return Err(not_expected(line));
+    let mut entries = Vec::new(alloc);
+    let mut state = State::Start;
+    let mut rest = text;
+    let mut number = 1;
+    'lines: loop {
+        let (line, behind) = cut_line(rest);
+        let Step { state: next, ended } = state.line(alloc, number, line)?;
+        keep(&mut entries, symbols, ended)?;
+        let Some(behind) = behind else {
+            keep(&mut entries, symbols, next.record())?;
+            return Ok(entries);
+        };
+        state = next;
+        rest = behind;
+        number += 1;
+    }
+}
+
+/// Puts the entry of a record that has ended behind the others.
+fn keep(
+    entries: &mut Vec<Entry>,
+    symbols: &mut Symbols,
+    ended: Option<Record<'_>>,
+) -> Result<(), Fault<LexiconCause>>
+    requires { length symbols.old + most_texts_of ended < 2 ^ 32 }
+    ensures kept { IfOk result (λ _. IsKept symbols.new entries.old.items entries.new.items ended.entry) }
+    ensures refused { IfErr result (λ fault. (rest : Result (List Text) EntryFault) → FailsFor (ended_before ended.entry rest) fault) }
+    ensures extends { Extends symbols.old symbols.new }
+    ensures growth { length symbols.new ≤ length symbols.old + most_texts_of ended.entry }
+{
+    let Some(record) = ended else {
+        return Ok(());
     };
-    let (category_line, rest) = cut_line(rest);
-    let Some(category) = field(category_line, 'c') else {
-        return Err(not_expected(line + 1));
-    };
-    let word = symbols.intern(word)?;
-    let category = symbols.intern(category)?;
-    Ok((Entry { word, category }, rest))
-}
-
-/// The fault of a line that is not the one expected there.
-fn not_expected(line: u32) -> Fault<LexiconCause>
-    ensures { result ≡ Fault.Refused (LexiconCause.LaterForm line 1) }
-{
-    Fault::Refused(LexiconCause::LaterForm { line, column: 1 })
-}
-
-/// The first line of a text without its LF, and what stands behind it.
-fn cut_line(text: &str) -> (&str, &str)
-    ensures { IsFirstLine text.now result.0.now result.1.now }
-{
-    text.split_once('\n').unwrap_or((text, ""))
-}
-
-/// The word of a line of this marker: `\`, the marker, a space and a word.
-fn field(line: &str, marker: char) -> Option<&str>
-    requires { marker < 128 }
-    ensures { option_copied result ≡ field marker line.now }
-{
-    let word = line
-        .strip_prefix('\\')?
-        .strip_prefix(marker)?
-        .strip_prefix(' ')?;
-    is_word(word).then_some(word)
-}
-
-/// One byte or more, none of them white space or a control character.
-fn is_word(text: &str) -> bool
-    ensures { result ≡ is_word text.now }
-{
-    !text.is_empty() && text.bytes().all(|byte| byte > b' ' && byte != 127)
-}
-
-#[cfg(test)]
-mod tests {
-    use super::*;
-    use patr_text::Id;
-    use std::process::Abort;
-    use std::test::Fail;
-
-    /// The text of a number.
-    fn text<'a, A: Abort>(rt: &A, symbols: &'a Symbols, id: Id) -> &'a str {
-        assert!(rt; id.0 < symbols.len());
-        symbols.text(id)
-    }
-
-    /// The words and categories that are read, or why the bytes are refused.
-    fn shown<A: Abort>(rt: &A, alloc: Global, bytes: &[u8]) -> Result<String, Fail> {
-        let mut symbols = Symbols::new(alloc)?;
-        assert!(rt; symbols.len() < 100 && bytes.len() < 100);
-        match read_lexicon(alloc, &mut symbols, bytes) {
-            Ok(entries) => {
-                let mut shown = String::new(alloc);
-                for entry in &entries {
-                    shown.push_str(text(rt, &symbols, entry.word))?;
-                    shown.push_str("=")?;
-                    shown.push_str(text(rt, &symbols, entry.category))?;
-                    shown.push_str("|")?;
-                }
-                Ok(shown)
-            }
-            Err(Fault::Refused(cause)) => Ok(format!(in alloc; "{cause}")?),
-            Err(Fault::Memory) => Ok(format!(in alloc; "no memory")?),
-        }
-    }
-
-    #[test]
-    fn pairs_of_lines_are_read(rt: HostRuntime) -> Result<(), Fail> {
-        for (bytes, want) in [
-            (b"".as_slice(), ""),
-            (
-                b"\\w the\n\\c Det\n\\w dog\n\\c N\n".as_slice(),
-                "the=Det|dog=N|",
-            ),
-            (b"\\w dog\n\\c N\n\\w dog\n\\c V".as_slice(), "dog=N|dog=V|"),
-            (
-                b"\\w \xc3\xa9t\xc3\xa9;\n\\c \\w".as_slice(),
-                "\u{e9}t\u{e9};=\\w|",
-            ),
-        ] {
-            assert_eq!(rt; shown(&rt, rt.alloc(), bytes)?.as_str(), want);
-        }
-        Ok(())
-    }
-
-    #[test]
-    fn the_first_other_line_is_refused(rt: HostRuntime) -> Result<(), Fail> {
-        for (bytes, want) in [
-            (b"\n".as_slice(), "lexicon 1:1: not built yet"),
-            (b"\\w a".as_slice(), "lexicon 2:1: not built yet"),
-            (b"\\w a\n".as_slice(), "lexicon 2:1: not built yet"),
-            (b"\\w a\r\n\\c N\n".as_slice(), "lexicon 1:1: not built yet"),
-            (b"\\w a\n\n\\c N\n".as_slice(), "lexicon 2:1: not built yet"),
-            (b"\\w a\n\\c N\n\n".as_slice(), "lexicon 3:1: not built yet"),
-            (
-                b"\\w a\n\\c N\n\\w b".as_slice(),
-                "lexicon 4:1: not built yet",
-            ),
-            (b"\\w  a\n\\c N\n".as_slice(), "lexicon 1:1: not built yet"),
-            (b"\\w a b\n\\c N\n".as_slice(), "lexicon 1:1: not built yet"),
-            (b"\\w \n\\c N\n".as_slice(), "lexicon 1:1: not built yet"),
-            (b"\\w a\n\\w N\n".as_slice(), "lexicon 2:1: not built yet"),
-            (
-                b"\\w a\n\\c \x7f\n".as_slice(),
-                "lexicon 2:1: not built yet",
-            ),
-            (
-                b"\\w a\n\\g b\n\xff".as_slice(),
-                "lexicon: not UTF-8 at byte 10",
-            ),
-        ] {
-            assert_eq!(rt; shown(&rt, rt.alloc(), bytes)?.as_str(), want);
-        }
-        Ok(())
-    }
+    let entry = record.entry(symbols)?;
+    entries.push(entry)?;
+    Ok(())
 }

@@ -6,8 +6,7 @@ ghost use Rattle.patr_text.specs.Texts.{Extends};
 ghost use Rattle.patr_shell.specs.Outcome.{CannotLoad, is_read_fault};
 ghost use Rattle.patr_shell.specs.Loaded.{IsLoadFault, ReadsGrammar, IsGrammarFault, ReadsLexicon, IsLexiconFault};
 
-use crate::language::Entry;
-use crate::lexicon::read_lexicon;
+use crate::lexicon::{Entry, read_lexicon};
 use crate::refusal::{OpeningFault, Refusal};
 use crate::{GrammarTrouble, LexiconTrouble};
 use patr_grammar::{Grammar, read_grammar};

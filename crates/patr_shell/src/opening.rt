@@ -1,5 +1,5 @@
 //! What a run begins with: the words of the command line, and the two files that they name.
-ghost use Rattle.std.specs.Prelude.{◌≡◌, ℕ, List, map, string_bytes, IfOk, IfErr, IfSome};
+ghost use Rattle.std.specs.Prelude.{◌≡◌, ◌≤◌, ℕ, List, map, string_bytes, IfOk, IfErr, IfSome};
 ghost use Rattle.std.specs.Bool.{OnFalse};
 ghost use Rattle.patr_model.specs.Table.{IsTable};
 ghost use Rattle.patr_shell.specs.Spoken.{rule_categories};
@@ -7,7 +7,7 @@ ghost use Rattle.patr_shell.specs.Loaded.{text_categories};
 ghost use Rattle.patr_shell.specs.Outcome.{IsOpened, HaveSession, IsFaultOf, LooksAt, CannotLoad, is_read_fault};
 
 use crate::Memory;
-use crate::command_line::file_names;
+use crate::command_line::read_setup;
 use crate::language::{Language, Rule};
 use crate::loading::{load_grammar, load_lexicon};
 use crate::refusal::{OpeningFault, Refusal};
@@ -42,29 +42,38 @@ fn rules_of(alloc: Global, grammar: &Grammar) -> Result<Vec<Rule>, Memory>
     Ok(rules)
 }
 
+/// A language, and the greatest number of edges of a chart under which its sentences are parsed.
+#[derive(Drop)]
+pub struct Opened {
+    pub language: Language,
+    pub limit: u32,
+}
+
 /// Reads the two files that the words name, into the language that they stand for.
 pub fn open<F: Shelf>(
     alloc: Global,
     words: &[String],
     shelf: &mut F,
-) -> Result<Language, OpeningFault>
-    ensures opened { IfOk result (λ language. IfSome (F.files shelf.old) (λ files. IsOpened (map string_bytes words.now) files language)) }
+) -> Result<Opened, OpeningFault>
+    ensures opened { IfOk result (λ o. IfSome (F.files shelf.old) (λ files. IsOpened (map string_bytes words.now) files o.language o.limit)) }
     ensures found { IfOk result (λ _. HaveSession (map string_bytes words.now) (F.files shelf.old)) }
-    ensures table { IfOk result (λ language. IsTable language.texts) }
+    ensures table { IfOk result (λ o. IsTable o.language.texts) }
+    ensures limit { IfOk result (λ o. o.limit ≤ 200000) }
     ensures fault { IfErr result (λ fault. IsFaultOf (map string_bytes words.now) (F.files shelf.old) fault) }
     ensures read { IfErr result (λ fault. fault ≡ OpeningFault.Read → (name : List ℕ) × LooksAt (map string_bytes words.now) (F.files shelf.old) name
         × CannotLoad (F.files shelf.old) (F.faults shelf.old) (F.faults shelf.new) (F.failed_name shelf.new) name) }
     ensures well { OnFalse (is_read_fault result) (F.faults shelf.new ≡ F.faults shelf.old) }
 {
-    let Some(names) = file_names(words) else {
+    let Some(setup) = read_setup(alloc, words)? else {
         return Err(OpeningFault::Refused(Refusal::Words));
     };
     let mut symbols = Symbols::new(alloc)?;
-    let grammar = load_grammar(alloc, shelf, names.grammar, &mut symbols)?;
-    let entries = load_lexicon(alloc, shelf, names.lexicon, &mut symbols)?;
+    let grammar = load_grammar(alloc, shelf, setup.grammar, &mut symbols)?;
+    let entries = load_lexicon(alloc, shelf, setup.lexicon, &mut symbols)?;
     let rules = rules_of(alloc, &grammar)?;
-    // No text of the table stands twice: `len` says so.
-    symbols.len();
     let language = Language::build(alloc, symbols, rules, entries, grammar.start)?;
-    Ok(language)
+    Ok(Opened {
+        language,
+        limit: setup.limit,
+    })
 }

@@ -1,14 +1,16 @@
 //! Why a run ends before its session.
-ghost use Rattle.std.specs.Prelude.{◌≡◌, IfOk, string_bytes};
-ghost use Rattle.patr_model.specs.FirstPass.{rules_line, entries_line};
-ghost use Rattle.patr_grammar.specs.Reading.{trouble_of};
-ghost use Rattle.patr_shell.specs.LexiconReading.{IsAtLineStart, trouble_of as entries_trouble_of};
-ghost use Rattle.patr_shell.specs.Outcome.{refusal_line, status_of, HasColumn};
+ghost use Rattle.std.specs.Prelude.{◌≡◌, ◌++◌, IfOk, codes, string_bytes};
+ghost use Rattle.patr_model.specs.Faults.{at_place};
+ghost use Rattle.patr_model.specs.GrammarText.{grammar_fault_line};
+ghost use Rattle.patr_model.specs.LexiconText.{lexicon_fault_line};
+ghost use Rattle.patr_grammar.specs.Reading.{fault_of};
+ghost use Rattle.patr_shell.specs.LexiconReading.{fault_of as lexicon_fault_of};
+ghost use Rattle.patr_shell.specs.Outcome.{refusal_line, status_of};
 ghost use Rattle.patr_shell.specs.declared.refusal.OpeningFault.TheVariants.{Memory as OutOfMemory};
 
 use crate::lexicon::LexiconCause;
 use crate::{GrammarTrouble, LexiconTrouble, Memory, Status};
-use patr_grammar::GrammarCause;
+use patr_grammar::{GrammarCause, expected_text};
 use std::alloc::{AllocError, AllocFailed, Global};
 
 const USAGE: &str = "usage: patr GRAMMAR LEXICON [--workers N] [--limit N]\n";
@@ -62,9 +64,24 @@ impl<T: Drop> From<AllocFailed<T>> for OpeningFault {
     }
 }
 
+/// The line that refuses a grammar's text where something else is expected.
+fn expected_line(
+    alloc: Global,
+    line: u32,
+    column: u32,
+    what: &'static str,
+) -> Result<String, Memory>
+    ensures { IfOk result (λ text. string_bytes text ≡ at_place (codes "grammar") (record { line = line; column = column }) (codes "expected " ++ what.now)) }
+{
+    let mut text = format!(in alloc; "error: grammar {line}:{column}: expected ")?;
+    text.push_str(what)?;
+    text.push('\n')?;
+    Ok(text)
+}
+
 /// The line that refuses a grammar's text.
 fn grammar_line(alloc: Global, cause: GrammarCause) -> Result<String, Memory>
-    ensures { IfOk result (λ text. string_bytes text ≡ rules_line (trouble_of cause)) }
+    ensures { IfOk result (λ text. string_bytes text ≡ grammar_fault_line (fault_of cause)) }
 {
     match cause {
         GrammarCause::NotUtf8 { at } => {
@@ -73,6 +90,13 @@ fn grammar_line(alloc: Global, cause: GrammarCause) -> Result<String, Memory>
         GrammarCause::BadToken { line, column } => {
             format!(in alloc; "error: grammar {line}:{column}: bad character\n")
         }
+        GrammarCause::Expected { line, column, what } => {
+            expected_line(alloc, line, column, expected_text(&what))
+        }
+        GrammarCause::TooManySymbols { line, column } => {
+            format!(in alloc; "error: grammar {line}:{column}: too many symbols\n")
+        }
+        GrammarCause::NoRules => String::from_str(alloc, "error: grammar: no rules\n"),
         GrammarCause::LaterForm { line, column } => {
             format!(in alloc; "error: grammar {line}:{column}: not built yet\n")
         }
@@ -81,12 +105,21 @@ fn grammar_line(alloc: Global, cause: GrammarCause) -> Result<String, Memory>
 
 /// The line that refuses a lexicon's text.
 fn lexicon_line(alloc: Global, cause: LexiconCause) -> Result<String, Memory>
-    requires { IsAtLineStart cause }
-    ensures { IfOk result (λ text. string_bytes text ≡ entries_line (entries_trouble_of cause)) }
+    ensures { IfOk result (λ text. string_bytes text ≡ lexicon_fault_line (lexicon_fault_of cause)) }
 {
     match cause {
         LexiconCause::NotUtf8 { at } => {
             format!(in alloc; "error: lexicon: not UTF-8 at byte {at}\n")
+        }
+        LexiconCause::BadToken { line, column } => {
+            format!(in alloc; "error: lexicon {line}:{column}: bad character\n")
+        }
+        LexiconCause::NoWord { line } => { format!(in alloc; "error: lexicon {line}: no word\n") }
+        LexiconCause::SeveralWords { line } => {
+            format!(in alloc; "error: lexicon {line}: several words\n")
+        }
+        LexiconCause::NoCategory { line } => {
+            format!(in alloc; "error: lexicon {line}: no category\n")
         }
         LexiconCause::LaterForm { line, column } => {
             format!(in alloc; "error: lexicon {line}:{column}: not built yet\n")
@@ -97,7 +130,6 @@ fn lexicon_line(alloc: Global, cause: LexiconCause) -> Result<String, Memory>
 impl Refusal {
     /// The line that says why the words or a file are refused, with its LF.
     pub fn line(&self, alloc: Global) -> Result<String, Memory>
-        requires { HasColumn self.now }
         ensures { IfOk result (λ text. string_bytes text ≡ refusal_line self.now) }
     {
         match self {

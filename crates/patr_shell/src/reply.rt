@@ -4,7 +4,7 @@ ghost use Rattle.std.specs.List.{AllByRecursion};
 ghost use Rattle.patr_text.specs.declared.symbols.Id.{Id};
 ghost use Rattle.patr_model.specs.Plain.{plain};
 ghost use Rattle.patr_model.specs.Session.{Numbering, AgreesWith, IsSentenceReply, IsLineReply, look_of, line};
-ghost use Rattle.patr_model.specs.FirstPass.{bad_command, sentences_alone};
+ghost use Rattle.patr_model.specs.Built.{sentences_alone};
 ghost use Rattle.patr_model.specs.Text.{tree_text};
 ghost use Rattle.patr_shell.specs.Charted.{tree};
 ghost use Rattle.patr_shell.specs.Closing.{KindsFit};
@@ -105,13 +105,6 @@ pub fn sentence_reply(
     }
 }
 
-// The reply to a line that is not built.
-fn bad_command(alloc: Global) -> Result<String, Memory>
-    ensures { IfOk result (λ text. string_bytes text ≡ bad_command) }
-{
-    String::from_str(alloc, "error: bad command\n")
-}
-
 /// The reply to a line without its end. A line of white space has none, and its text is empty.
 pub fn line_reply(
     alloc: Global,
@@ -124,17 +117,17 @@ pub fn line_reply(
         IsLineReply (λ g cat. plain g) sentences_alone (grounds N language.now) (at_limit limit) line.now (string_bytes text) (at_limit limit)) }
 {
     if line.len() > 4096 {
-        return bad_command(alloc);
+        return String::from_str(alloc, "error: line too long\n");
     }
     let Ok(text) = std::str::from_utf8(line) else {
-        return bad_command(alloc);
+        return String::from_str(alloc, "error: line is not UTF-8\n");
     };
     let words = words_of(alloc, text)?;
     if words.is_empty() {
         return Ok(String::new(alloc));
     }
     if words[0].starts_with(':') {
-        return bad_command(alloc);
+        return String::from_str(alloc, "error: bad command\n");
     }
     sentence_reply(alloc, language, limit, &words)
 }

@@ -4,7 +4,7 @@ ghost use Rattle.std.specs.Bool.{OnTrue, OnFalse};
 ghost use Rattle.std.specs.Io.KnownBytes.{Appends, IsAtEnd};
 ghost use Rattle.patr_io.specs.Causes.{HasCause, IsFlushed, Rose};
 ghost use Rattle.patr_shell.specs.Sent.{AppendsFront};
-ghost use Rattle.patr_shell.specs.Outcome.{is_definite, is_refusal, refusal_line, HasColumn, IsEndOf, ended_by_read, ended_by_write, HasWritten, HasBegunRun, IsStatusOf, LooksAt, CannotLoad};
+ghost use Rattle.patr_shell.specs.Outcome.{is_definite, is_refusal, refusal_line, IsEndOf, ended_by_read, ended_by_write, HasWritten, HasBegunRun, HasAnsweredTaken, MayBeDone, IsStatusOf, LooksAt, CannotLoad};
 
 use crate::opening::open;
 use crate::refusal::{OpeningFault, Refusal};
@@ -16,12 +16,8 @@ use std::alloc::Global;
 use std::sync::Wait;
 use std::thread::Threads;
 
-/// The greatest number of edges of a chart, as a session begins.
-const FIRST_LIMIT: u32 = 20000;
-
 /// Writes the line of a refusal, and answers how the run ends.
 fn refuse<K: Sink>(alloc: Global, output: &mut K, refusal: Refusal) -> Status
-    requires { HasColumn refusal }
     ensures whole { OnTrue (is_definite result) (Appends (K.written output.old) (K.written output.new) (refusal_line refusal)) }
     ensures front { AppendsFront (K.written output.old) (K.written output.new) (refusal_line refusal) }
     ensures status { IsEndOf refusal result }
@@ -59,15 +55,21 @@ pub fn run<R: Threads + Wait + Sync, F: Shelf, S: Source, K: Sink, G: Gate>(
     ensures read { result ≡ Status.ReadFault → Rose (S.faults input.old) (S.faults input.new)
         ⊎ ((name : List ℕ) × LooksAt (map string_bytes words.now) (F.files shelf.old) name
         × CannotLoad (F.files shelf.old) (F.faults shelf.old) (F.faults shelf.new) (F.failed_name shelf.new) name) }
+    // After such a fault each line whose end was taken is answered, and nothing else.
+    ensures taken { result ≡ Status.ReadFault → ((S.left input.new ≡ S.left input.old) × (K.written output.new ≡ K.written output.old))
+        ⊎ IfSome (F.files shelf.old) (λ files. HasAnsweredTaken (map string_bytes words.now) files (S.left input.old) (S.left input.new) (K.written output.old) (K.written output.new)) }
     ensures source_well { OnFalse (ended_by_read result) (S.faults input.new ≡ S.faults input.old) }
     ensures shelf_well { OnFalse (ended_by_read result) (F.faults shelf.new ≡ F.faults shelf.old) }
     ensures write { HasCause (K.faults output.old) (K.faults output.new) (ended_by_write result) }
     ensures flushed { OnTrue (is_definite result) (IsFlushed (K.written output.old) (K.flushed output.old) → IsFlushed (K.written output.new) (K.flushed output.new)) }
     ensures untouched { OnTrue (is_refusal result) (S.left input.new ≡ S.left input.old) }
     ensures end { result ≡ Status.Done → IsAtEnd (S.left input.new) }
+    // Where the words, the files and the input are as they should be and no device failed, the run is done, or memory was short.
+    ensures complete { MayBeDone (map string_bytes words.now) (F.files shelf.old) (S.left input.old) → (Rose (S.faults input.old) (S.faults input.new) → ⊥) → (Rose (F.faults shelf.old) (F.faults shelf.new) → ⊥)
+        → (Rose (K.faults output.old) (K.faults output.new) → ⊥) → (result ≡ Status.Done) ⊎ (result ≡ Status.Memory) }
 {
     match open(alloc, words, shelf) {
-        Ok(language) => run_session(alloc, &language, FIRST_LIMIT, input, output),
+        Ok(opened) => run_session(alloc, &opened.language, opened.limit, input, output),
         Err(OpeningFault::Refused(refusal)) => refuse(alloc, output, refusal),
         Err(OpeningFault::Read) => Status::ReadFault,
         Err(OpeningFault::Memory) => Status::Memory,

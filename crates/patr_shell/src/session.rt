@@ -202,7 +202,7 @@ pub fn run_session<S: Source, K: Sink>(
     ensures end { result ≡ Status.Done → IsAtEnd (S.left source.new) }
     ensures status { IsSessionStatus result }
     // After a read that failed, each line whose end was taken is answered, and nothing else.
-    ensures read { result ≡ Status.ReadFault → (taken : List ℕ) × Consumes (S.left source.old) (S.left source.new) taken
+    ensures read { result ≡ Status.ReadFault → (taken : List ℕ) × Consumes (S.left source.old) (S.left source.new) taken × (length taken ≤ 16777216)
         × HasAnswered language.now limit (whole_lines_of taken) (K.written sink.old) (K.written sink.new) }
     ensures source_cause { HasCause (S.faults source.old) (S.faults source.new) (ended_by_read result) }
     ensures sink_cause { HasCause (K.faults sink.old) (K.faults sink.new) (ended_by_write result) }

@@ -28,7 +28,7 @@ pub enum LexiconTrouble {
 pub enum Status {
     /// The input was answered to its end.
     Done,
-    /// The words are not the names of two files.
+    /// The words of the command line are not of the form.
     BadWords,
     /// The grammar is refused.
     BadGrammar(GrammarTrouble),

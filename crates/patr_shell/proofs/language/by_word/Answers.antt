@@ -1,6 +1,6 @@
 use Rattle.std.proofs.Common.{List, refl, arith}
 use Rattle.patr_model.specs.Derivation.{EntryVariant}
-use Rattle.patr_shell.specs.declared.language.Entry.{Entry}
+use Rattle.patr_shell.specs.declared.lexicon.Entry.{Entry}
 use Rattle.patr_shell.specs.Lists.{numbers}
 use Rattle.patr_shell.specs.Spoken.{entry_variants, IsEntryHeld, has_word}
 use Rattle.patr_shell.proofs.Listed.{listed_next, all_get}

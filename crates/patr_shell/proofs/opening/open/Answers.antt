@@ -1,7 +1,6 @@
-use Rattle.std.proofs.Common.{◌∙◌, sym, ap, subst, refl, length, arith, map, string_bytes}
+use Rattle.std.proofs.Common.{◌∙◌, sym, ap, refl, length, arith, map, string_bytes}
 use Rattle.std.proofs.lemmas.Result.{err_from_is_err_and}
-use Rattle.patr_model.specs.Run.{Setup}
-use Rattle.patr_model.specs.Table.{IsTable}
+use Rattle.patr_shell.specs.Words.{setup_meant, setup_seen}
 use Rattle.patr_shell.specs.Outcome.{grammar, lexicon}
 use Rattle.patr_shell.proofs.FewDaughters.{are_few_daughters}
 use Rattle.patr_shell.proofs.Meanings.{are_held, are_few_rules, are_few_entries, is_opened, has_grammar, have_session, first_few}
@@ -16,15 +15,13 @@ load_lexicon-requires g c = omega (arith, ap length c.in_ok-symbols.ensures ∙ 
 pub returns-in_err-grammar-clause-read : goal.returns-in_err-grammar-clause-read
 returns-in_err-grammar-clause-read g c =
     let p = err_from_is_err_and c.from_residual-in_err-grammar.result c.from_residual-in_err-grammar.ensures.1 in
-    let setup : Setup = record { grammar = c.in-Some.names.grammar.now; lexicon = c.in-Some.names.lexicon.now; limit = 20000 } in
-    rw (p.1, p.2) (λ is. (c.in-Some.names.grammar.now, grammar setup (sym c.in-Some.ensures) refl, c.in_err-grammar.ensures.read is))
+    rw (p.1, p.2) (λ is. (c.in-Some.setup.grammar.now, grammar (setup_meant c.in-Some.setup) (sym c.in_ok-setup.ensures.words ∙ ap setup_seen c.in-Some.is) refl, c.in_err-grammar.ensures.read is))
 
 pub returns-in_err-entries-clause-read : goal.returns-in_err-entries-clause-read
 returns-in_err-entries-clause-read g c =
     let p = err_from_is_err_and c.from_residual-in_err-entries.result c.from_residual-in_err-entries.ensures.1 in
-    let setup : Setup = record { grammar = c.in-Some.names.grammar.now; lexicon = c.in-Some.names.lexicon.now; limit = 20000 } in
     let read = rw (c.load_grammar.ensures.files, c.in_ok-grammar.ensures.well) at c.in_err-entries.ensures.read in
-    rw (p.1, p.2) (λ is. (c.in-Some.names.lexicon.now, lexicon setup (sym c.in-Some.ensures) refl (has_grammar _ _ _ _ c.in_ok-grammar.ensures.grammar), read is))
+    rw (p.1, p.2) (λ is. (c.in-Some.setup.lexicon.now, lexicon (setup_meant c.in-Some.setup) (sym c.in_ok-setup.ensures.words ∙ ap setup_seen c.in-Some.is) refl (has_grammar _ _ _ _ c.in_ok-grammar.ensures.grammar), read is))
 
 pub build-requires-clause-held : goal.build-requires-clause-held
 build-requires-clause-held g c =
@@ -44,10 +41,7 @@ build-requires-clause-few_entries g c =
 pub returns-clause-opened : goal.returns-clause-opened
 returns-clause-opened g c =
     let read = rw c.load_grammar.ensures.files at c.in_ok-entries.ensures.lexicon in
-    is_opened _ _ c.load_lexicon.ensures.extends _ _ _ c.in_ok-rules.ensures _ _ _ c.in_ok-grammar.ensures.grammar read (map string_bytes c.args.words.now) (sym c.in-Some.ensures) _ c.in_ok-language.ensures.texts c.in_ok-language.ensures.rules
-
-pub returns-clause-table : goal.returns-clause-table
-returns-clause-table g c = subst IsTable (sym c.in_ok-language.ensures.texts) c.len.ensures.one_to_one
+    is_opened _ _ c.load_lexicon.ensures.extends _ _ _ c.in_ok-rules.ensures _ (setup_meant c.in-Some.setup) c.in_ok-grammar.ensures.grammar read (map string_bytes c.args.words.now) (sym c.in_ok-setup.ensures.words ∙ ap setup_seen c.in-Some.is) _ c.in_ok-language.ensures.texts c.in_ok-language.ensures.rules
 
 pub build-requires-clause-few_daughters : goal.build-requires-clause-few_daughters
 build-requires-clause-few_daughters g c = are_few_daughters _ _ _ _ _ c.in_ok-rules.ensures c.in_ok-grammar.ensures.grammar
@@ -55,5 +49,4 @@ build-requires-clause-few_daughters g c = are_few_daughters _ _ _ _ _ c.in_ok-ru
 pub returns-clause-found : goal.returns-clause-found
 returns-clause-found g c =
     let read = rw c.load_grammar.ensures.files at c.in_ok-entries.ensures.lexicon in
-    let setup : Setup = record { grammar = c.in-Some.names.grammar.now; lexicon = c.in-Some.names.lexicon.now; limit = 20000 } in
-    have_session _ (map string_bytes c.args.words.now) setup (sym c.in-Some.ensures) _ _ _ _ c.in_ok-grammar.ensures.grammar read
+    have_session _ (map string_bytes c.args.words.now) (setup_meant c.in-Some.setup) (sym c.in_ok-setup.ensures.words ∙ ap setup_seen c.in-Some.is) _ _ _ _ c.in_ok-grammar.ensures.grammar read

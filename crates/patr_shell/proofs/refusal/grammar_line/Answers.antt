@@ -1,8 +1,15 @@
-use Rattle.std.proofs.Common.{rules, append_assoc}
+use Rattle.std.proofs.Common.{rules, subst, IfOk, ◌≡◌, ◌++◌, string_bytes, codes, append_assoc}
+use Rattle.patr_model.specs.Faults.{at_place}
 use Rattle.patr_shell.proofs.refusal.grammar_line.Goals as goal
 
 pub returns-in-BadToken : goal.returns-in-BadToken
 returns-in-BadToken c = rw c.in-BadToken.is (search (rules, append_assoc))
+
+pub returns-in-Expected : goal.returns-in-Expected
+returns-in-Expected c = rw c.in-Expected.is (subst (λ w. IfOk c.expected_line.result (λ text. string_bytes text ≡ at_place (codes "grammar") (record { line = c.in-Expected.line; column = c.in-Expected.column }) (codes "expected " ++ w))) c.expected_text.ensures c.expected_line.ensures)
+
+pub returns-in-TooManySymbols : goal.returns-in-TooManySymbols
+returns-in-TooManySymbols c = rw c.in-TooManySymbols.is (search (rules, append_assoc))
 
 pub returns-in-LaterForm : goal.returns-in-LaterForm
 returns-in-LaterForm c = rw c.in-LaterForm.is (search (rules, append_assoc))

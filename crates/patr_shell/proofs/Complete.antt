@@ -1,0 +1,111 @@
+-- Where the words, the files and the input are as they should be and no device fails, a run is done, or memory was short.
+use Rattle.std.proofs.Common.{◌≡◌, ◌⊎◌, ◌≤◌, ◌<◌, ℕ, List, [], Option, Some, None, IfSome, Bool, true, length, refl, sym, ◌∙◌, ap, subst, inl, inr, arith}
+use Rattle.std.specs.Bool.{OnTrue}
+use Rattle.std.specs.Option.{IsSomeAnd}
+use Rattle.std.specs.FinMap.{get}
+use Rattle.patr_io.specs.Causes.{Rose, HasCause}
+use Rattle.patr_io.specs.Files.{Files, IsAbsent}
+use Rattle.patr_model.specs.Session.{Numbering, Grounds, State}
+use Rattle.patr_model.specs.Run as run
+use Rattle.patr_model.specs.Run.{Setup, Session, AfterWords, AfterGrammar, IsOpening, IsOut, IsSession, Follows, first_state}
+use Rattle.patr_model.specs.GrammarText.{ReadsGrammar, grammar_fault_line}
+use Rattle.patr_model.specs.LexiconText.{ReadsLexicon, lexicon_fault_line}
+use Rattle.patr_model.specs.Built.{stage, built, plain_grounds}
+use Rattle.patr_model.proofs.Maps.{some_inj}
+use Rattle.patr_model.proofs.OneRun.{no_grammar_fault, no_lexicon_fault}
+use Rattle.patr_grammar.specs.Reading.{fault_of}
+use Rattle.patr_shell.specs.LexiconReading.{fault_of as lexicon_fault_of}
+use Rattle.patr_shell.specs.declared.status.GrammarTrouble.{GrammarTrouble}
+use Rattle.patr_shell.specs.declared.status.GrammarTrouble.TheVariants as grammar_trouble
+use Rattle.patr_shell.specs.declared.status.LexiconTrouble.{LexiconTrouble}
+use Rattle.patr_shell.specs.declared.status.LexiconTrouble.TheVariants as lexicon_trouble
+use Rattle.patr_shell.specs.declared.status.Status.{Status}
+use Rattle.patr_shell.specs.declared.status.Status.TheVariants.{Done, BadWords, BadGrammar, BadLexicon, ReadFault, WriteFault, Memory, InputTooLong}
+use Rattle.patr_shell.specs.declared.refusal.Refusal.{Refusal}
+use Rattle.patr_shell.specs.declared.refusal.Refusal.TheVariants as refusal
+use Rattle.patr_shell.specs.Outcome.{is_definite, Names, HasBadGrammar, HasBadLexicon, HaveSession, LooksAt, grammar, lexicon, CannotLoad, IsStatusOf, IsSessionStatus, IsEndOf, status_of, HasWritten, MayBeDone}
+use Rattle.patr_shell.proofs.RunLaws.{one_opening, numbered_tables}
+
+-- a file is no longer than it may be
+not_long : (o : Option (List ℕ)) (most : ℕ) (bytes : List ℕ) → o ≡ Some bytes → length bytes ≤ most → IsSomeAnd o (λ b. most < length b) → ⊥
+not_long None most bytes is short long = long
+not_long (Some b) most bytes is short long = let same : b ≡ bytes = some_inj b bytes is in let l = ap length same in omega (arith, l, short, long)
+
+module _ (words : List (List ℕ)) (f : Files) (session : HaveSession words (Some f)) where
+  one_setup : (s : Setup) → Names words s → s ≡ session.0
+  one_setup s named = some_inj s session.0 (sym named ∙ session.1)
+
+  no_bad_grammar : (trouble : GrammarTrouble) → HasBadGrammar (Some f) session.0.grammar trouble → ⊥
+  no_bad_grammar grammar_trouble.TooLong bad = not_long (get f session.0.grammar) 4194304 session.2.0 session.2.2 session.2.3 bad
+  no_bad_grammar (grammar_trouble.Text cause) bad =
+      let same : bad.0 ≡ session.2.0 = some_inj bad.0 session.2.0 (sym bad.1 ∙ session.2.2) in
+      no_grammar_fault stage bad.0 (grammar_fault_line (fault_of cause)) session.2.1 (subst (λ b. ReadsGrammar stage b session.2.1) (sym same) session.2.4) (fault_of cause, bad.3, refl)
+
+  no_bad_lexicon : (trouble : LexiconTrouble) → HasBadLexicon (Some f) session.0.lexicon trouble → ⊥
+  no_bad_lexicon lexicon_trouble.TooLong bad = not_long (get f session.0.lexicon) 16777216 session.3.0 session.3.2 session.3.3 bad
+  no_bad_lexicon (lexicon_trouble.Text cause) bad =
+      let same : bad.0 ≡ session.3.0 = some_inj bad.0 session.3.0 (sym bad.1 ∙ session.3.2) in
+      no_lexicon_fault stage bad.0 (lexicon_fault_line (lexicon_fault_of cause)) session.3.1 (subst (λ b. ReadsLexicon stage b session.3.1) (sym same) session.3.4) (lexicon_fault_of cause, bad.3, refl)
+
+  none_absent : (name : List ℕ) → LooksAt words (Some f) name → get f name ≡ None → ⊥
+  none_absent name (grammar s named is) gone = let e : s ≡ session.0 = one_setup s named in let g = session.2.2 in let n : name ≡ session.0.grammar = is ∙ ap (λ (z : Setup). z.grammar) e in let h : get f session.0.grammar ≡ None = subst (λ z. get f z ≡ None) n gone in cc
+  none_absent name (lexicon s named is other) gone = let e : s ≡ session.0 = one_setup s named in let g = session.3.2 in let n : name ≡ session.0.lexicon = is ∙ ap (λ (z : Setup). z.lexicon) e in let h : get f session.0.lexicon ≡ None = subst (λ z. get f z ≡ None) n gone in cc
+
+  -- an input within its size is not too long
+  not_too_long : (input : List ℕ) → length input ≤ 16777216 → (a b : Option (List ℕ)) → HasWritten words f input InputTooLong a b → ⊥
+  not_too_long input short a b written =
+      let N : Numbering = (numbered_tables [] (λ i j t h k. let e : None ≡ Some t = h in cc)).0 in
+      let out : IsOut built N words (get f) input written.text run.InputTooLong = written.is_out N in
+      let opened : IsOpening built N words (get f) (Session (plain_grounds N session.2.1 session.3.1) (first_state session.0)) =
+      inr (session.0, session.1, AfterWords.read session.2.0 session.2.1 session.2.2 session.2.3 session.2.4 (AfterGrammar.built session.3.0 session.3.1 (plain_grounds N session.2.1 session.3.1) session.3.2 session.3.3 session.3.4 refl refl)) in
+      let same : out.0 ≡ Session (plain_grounds N session.2.1 session.3.1) (first_state session.0) = one_opening N words (get f) out.0 _ out.1 opened in
+      go (plain_grounds N session.2.1 session.3.1) (first_state session.0) written.text (subst (λ o. Follows built o input written.text run.InputTooLong) same out.2)
+    where
+      go : (s : Grounds) (st : State) (text : List ℕ) → IsSession built s st input text run.InputTooLong → ⊥
+      go s st text (run.ended l q r e) = cc
+      go s st text (run.quit l r e) = cc
+      go s st text (run.too_long l before r t e) = omega (arith, l, short)
+
+-- a run is done, or memory was short
+module _ (words : List (List ℕ)) (files : Option Files) (left : Option (List ℕ)) (may : MayBeDone words files left) where
+  told_session : HaveSession words (Some may.told.0)
+  told_session = subst (HaveSession words) may.told.1 may.session
+
+  -- neither the words nor a file is refused
+  no_refusal : (r : Refusal) → IsStatusOf words files (status_of r) → ⊥
+  no_refusal refusal.Words cause = let e = told_session.1 in let n : None ≡ Some told_session.0 = sym cause ∙ e in cc
+  no_refusal (refusal.Grammar trouble) cause =
+      let c : IsStatusOf words (Some may.told.0) (BadGrammar trouble) = subst (λ o. IsStatusOf words o (BadGrammar trouble)) may.told.1 cause in
+      no_bad_grammar words may.told.0 told_session trouble (subst (λ (z : Setup). HasBadGrammar (Some may.told.0) z.grammar trouble) (one_setup words may.told.0 told_session c.0 c.1) c.2)
+  no_refusal (refusal.Lexicon trouble) cause =
+      let c : IsStatusOf words (Some may.told.0) (BadLexicon trouble) = subst (λ o. IsStatusOf words o (BadLexicon trouble)) may.told.1 cause in
+      no_bad_lexicon words may.told.0 told_session trouble (subst (λ (z : Setup). HasBadLexicon (Some may.told.0) z.lexicon trouble) (one_setup words may.told.0 told_session c.0 c.1) c.3)
+
+  pub refused_not : (r : Refusal) (status : Status) → IsStatusOf words files (status_of r) → IsEndOf r status → (status ≡ WriteFault → ⊥) → (status ≡ Done) ⊎ (status ≡ Memory)
+  refused_not r status cause (inl is) write = absurd (no_refusal r cause)
+  refused_not r status cause (inr (inl is)) write = absurd (write is)
+  refused_not r status cause (inr (inr is)) write = inr is
+
+  pub done_or_memory : (a b : Option (List ℕ)) (status : Status) → IsSessionStatus status → (status ≡ ReadFault → ⊥) → (status ≡ WriteFault → ⊥)
+      → OnTrue (is_definite status) (IfSome files (λ f. IfSome left (λ input. HasWritten words f input status a b))) → (status ≡ Done) ⊎ (status ≡ Memory)
+  done_or_memory a b Done is read write whole = inl refl
+  done_or_memory a b Memory is read write whole = inr refl
+  done_or_memory a b BadWords is read write whole = cc
+  done_or_memory a b (BadGrammar trouble) is read write whole = cc
+  done_or_memory a b (BadLexicon trouble) is read write whole = cc
+  done_or_memory a b ReadFault is read write whole = absurd (read refl)
+  done_or_memory a b WriteFault is read write whole = absurd (write refl)
+  done_or_memory a b InputTooLong is read write whole =
+      let w = subst (λ o. IfSome o (λ f. IfSome left (λ input. HasWritten words f input InputTooLong a b))) may.told.1 whole in
+      let v = subst (λ o. IfSome o (λ input. HasWritten words may.told.0 input InputTooLong a b)) may.input.1 w in
+      absurd (not_too_long words may.told.0 told_session may.input.0 may.input.2 a b v)
+
+  -- no read failed where no count rose, since each file that is looked at is there
+  pub no_read : (before now : ℕ) (failed : Option (List ℕ)) → (Rose before now → ⊥) → (name : List ℕ) → LooksAt words files name → CannotLoad files before now failed name → ⊥
+  no_read before now failed still name looks (inl rose) = still rose.0
+  no_read before now failed still name looks (inr gone) =
+      none_absent words may.told.0 told_session name (subst (λ o. LooksAt words o name) may.told.1 looks) (subst (λ o. IsAbsent o name) may.told.1 gone)
+
+-- a device that failed has a count that rose
+pub must_rise : (before now : ℕ) (failed : Bool) → HasCause before now failed → (Rose before now → ⊥) → failed ≡ true → ⊥
+must_rise before now failed cause still is = still (subst (λ t. OnTrue t (Rose before now)) is cause.rose)
