@@ -4,7 +4,7 @@ use crate::devices::{Setting, gives, well};
 use std::alloc::Global;
 use std::test::Fail;
 
-const FILES: [&str; 2] = ["g", "l"];
+const FILES: &[&str] = &["g", "l"];
 
 const GRAMMAR: &[u8] = b"Rule S -> A";
 
@@ -44,7 +44,7 @@ fn each_device_fails_once(rt: HostRuntime) -> Result<(), Fail> {
         };
         let written = REPLIES.get(..count).unwrap_or(b"");
         assert!(rt;
-            gives(&rt, alloc, &FILES, setting, code, written)?,
+            gives(&rt, alloc, FILES, setting, code, written)?,
             "{most} {fail_load} {fail_read} {fail_write}"
         );
     }
@@ -60,33 +60,44 @@ fn filled(alloc: Global, text: &[u8], byte: u8, count: usize) -> Result<Vec<u8>,
     Ok(bytes)
 }
 
+/// Whether the file is the grammar, how many LFs it has, the status, and what is written.
+const LONG_FILES: &[(bool, usize, u8, &[u8])] = &[
+    (true, 4_194_304, 2, b"error: grammar: no rules\n"),
+    (
+        true,
+        4_194_305,
+        2,
+        b"error: grammar: more than 4194304 bytes\n",
+    ),
+    (
+        false,
+        16_777_216,
+        0,
+        b"error: unknown word at 1: a\nerror: unknown word at 1: a\n",
+    ),
+    (
+        false,
+        16_777_217,
+        3,
+        b"error: lexicon: more than 16777216 bytes\n",
+    ),
+];
+
 #[test]
 fn long_files_are_refused(rt: HostRuntime) -> Result<(), Fail> {
     let alloc = rt.alloc();
-    let long = filled(alloc, b"", b'\n', 4_194_305)?;
-    let setting = well(&long, LEXICON, INPUT);
-    assert!(rt;
-        gives(
-            &rt,
-            alloc,
-            &FILES,
-            setting,
-            2,
-            b"error: grammar: more than 4194304 bytes\n"
-        )?
-    );
-    let long = filled(alloc, b"", b'\n', 16_777_217)?;
-    let setting = well(GRAMMAR, &long, INPUT);
-    assert!(rt;
-        gives(
-            &rt,
-            alloc,
-            &FILES,
-            setting,
-            3,
-            b"error: lexicon: more than 16777216 bytes\n"
-        )?
-    );
+    for (is_grammar, count, code, written) in LONG_FILES {
+        let long = filled(alloc, b"", b'\n', *count)?;
+        let setting = if *is_grammar {
+            well(&long, LEXICON, INPUT)
+        } else {
+            well(GRAMMAR, &long, INPUT)
+        };
+        assert!(rt;
+            gives(&rt, alloc, FILES, setting, *code, written)?,
+            "{count}"
+        );
+    }
     Ok(())
 }
 
@@ -103,7 +114,7 @@ fn long_inputs_are_refused(rt: HostRuntime) -> Result<(), Fail> {
         let input = filled(alloc, b"", b'\n', count)?;
         let setting = well(GRAMMAR, LEXICON, &input);
         assert!(rt;
-            gives(&rt, alloc, &FILES, setting, code, written)?,
+            gives(&rt, alloc, FILES, setting, code, written)?,
             "{count}"
         );
     }
@@ -113,22 +124,22 @@ fn long_inputs_are_refused(rt: HostRuntime) -> Result<(), Fail> {
 /// How many spaces stand behind the first letter, what ends the line, and what is written.
 const LINES: [(usize, &[u8], &[u8]); 3] = [
     (4095, b"\r\n", b"analyses 1\n1 (S (A a))\n"),
-    (4096, b"", b"error: bad command\n"),
+    (4096, b"", b"error: line too long\n"),
     (
         4096,
         b"\na",
-        b"error: bad command\nanalyses 1\n1 (S (A a))\n",
+        b"error: line too long\nanalyses 1\n1 (S (A a))\n",
     ),
 ];
 
 #[test]
-fn long_lines_are_bad_commands(rt: HostRuntime) -> Result<(), Fail> {
+fn long_lines_are_refused(rt: HostRuntime) -> Result<(), Fail> {
     let alloc = rt.alloc();
     for (count, end, written) in LINES {
         let mut input = filled(alloc, b"a", b' ', count)?;
         input.extend_from_slice(end)?;
         let setting = well(GRAMMAR, LEXICON, &input);
-        assert!(rt; gives(&rt, alloc, &FILES, setting, 0, written)?, "{count}");
+        assert!(rt; gives(&rt, alloc, FILES, setting, 0, written)?, "{count}");
     }
     Ok(())
 }

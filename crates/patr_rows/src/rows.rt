@@ -3,7 +3,7 @@
 use crate::devices::{gives, well};
 use std::test::Fail;
 
-const FILES: [&str; 2] = ["g", "l"];
+const FILES: &[&str] = &["g", "l"];
 
 const BARKS: &[u8] = b"Rule S -> NP VP\nRule NP -> Det N\nRule VP -> V\n";
 
@@ -26,7 +26,7 @@ struct Row {
 }
 
 /// Sessions that are answered.
-const SENTENCES: [Row; 7] = [
+const SENTENCES: &[Row] = &[
     Row {
         grammar: BARKS,
         lexicon: ANIMALS,
@@ -53,7 +53,7 @@ const SENTENCES: [Row; 7] = [
         lexicon: ANIMALS,
         input: b" \t\r\n\r\nthe cat barks loudly\r\n\xFF\n\t:quit\nthe\tdog  barks \r",
         code: 0,
-        written: b"error: unknown word at 2: cat\nerror: bad command\nerror: bad command\nanalyses 1\n1 (S (NP (Det the) (N dog)) (VP (V barks)))\n",
+        written: b"error: unknown word at 2: cat\nerror: line is not UTF-8\nerror: bad command\nanalyses 1\n1 (S (NP (Det the) (N dog)) (VP (V barks)))\n",
     },
     Row {
         grammar: ATTACHMENT,
@@ -63,18 +63,18 @@ const SENTENCES: [Row; 7] = [
         written: b"analyses 2\n1 (S (NP I) (VP (V saw) (NP (NP men) (PP (P in) (NP parks)))))\n2 (S (NP I) (VP (VP (V saw) (NP men)) (PP (P in) (NP parks))))\nanalyses 5\n1 (S (NP I) (VP (V saw) (NP (NP men) (PP (P in) (NP (NP parks) (PP (P with) (NP dogs)))))))\n2 (S (NP I) (VP (V saw) (NP (NP (NP men) (PP (P in) (NP parks))) (PP (P with) (NP dogs)))))\n3 (S (NP I) (VP (VP (V saw) (NP men)) (PP (P in) (NP (NP parks) (PP (P with) (NP dogs))))))\n4 (S (NP I) (VP (VP (V saw) (NP (NP men) (PP (P in) (NP parks)))) (PP (P with) (NP dogs))))\n5 (S (NP I) (VP (VP (VP (V saw) (NP men)) (PP (P in) (NP parks))) (PP (P with) (NP dogs))))\n",
     },
     Row {
-        grammar: b"Rule A -> A_1",
-        lexicon: b"\\w a\n\\c A\n",
-        input: b"a\n",
+        grammar: b"; a name, colons, dots and comments\nRULE {the sentence: 1} S -> NP VP: . rule NP -> Det N ; two\n.\nRule {} VP -> V:",
+        lexicon: b"; words\n\\id 7\n more\n\\w the\r\n\\c N\n\\c Det\n\\g the one\n  ; no gloss\n\n\\w\n  dog\t\n\\f\n\\c \n N\n\\w barks\n\\c V",
+        input: b"the dog barks\n",
         code: 0,
-        written: b"error: more than 20000 edges\n",
+        written: b"analyses 1\n1 (S (NP (Det the) (N dog)) (VP (V barks)))\n",
     },
     Row {
-        grammar: b"Rule T -> S W Rule S -> A A Rule A -> B B Rule B -> C C Rule C ->",
-        lexicon: b"\\w w\n\\c W",
-        input: b"w",
+        grammar: BARKS,
+        lexicon: b"",
+        input: b":limit 0\n:features\n:\n",
         code: 0,
-        written: b"analyses 1\n1 (T (S (A (B (C) (C)) (B (C) (C))) (A (B (C) (C)) (B (C) (C)))) (W w))\n",
+        written: b"error: bad command\nerror: bad command\nerror: bad command\n",
     },
 ];
 
@@ -84,7 +84,7 @@ fn sentences_are_answered(rt: HostRuntime) -> Result<(), Fail> {
     for (k, row) in SENTENCES.iter().enumerate() {
         let setting = well(row.grammar, row.lexicon, row.input);
         assert!(rt;
-            gives(&rt, alloc, &FILES, setting, row.code, row.written)?,
+            gives(&rt, alloc, FILES, setting, row.code, row.written)?,
             "row {k}"
         );
     }
@@ -92,7 +92,7 @@ fn sentences_are_answered(rt: HostRuntime) -> Result<(), Fail> {
 }
 
 /// Files that are refused.
-const REFUSED: [Row; 7] = [
+const REFUSED: &[Row] = &[
     Row {
         grammar: b"Rule S -> NP VP <S f> = x",
         lexicon: ANIMALS,
@@ -105,7 +105,7 @@ const REFUSED: [Row; 7] = [
         lexicon: ANIMALS,
         input: b"",
         code: 2,
-        written: b"error: grammar 1:1: not built yet\n",
+        written: b"error: grammar: no rules\n",
     },
     Row {
         grammar: b"\x01",
@@ -122,18 +122,116 @@ const REFUSED: [Row; 7] = [
         written: b"error: grammar: not UTF-8 at byte 0\n",
     },
     Row {
-        grammar: BARKS,
-        lexicon: b"\\w the\n\\c Det\n\\w dog\n",
+        grammar: b"S -> NP",
+        lexicon: ANIMALS,
         input: b"",
-        code: 3,
-        written: b"error: lexicon 4:1: not built yet\n",
+        code: 2,
+        written: b"error: grammar 1:1: expected a clause\n",
+    },
+    Row {
+        grammar: b"Rule S NP",
+        lexicon: ANIMALS,
+        input: b"",
+        code: 2,
+        written: b"error: grammar 1:8: expected '->'\n",
+    },
+    Row {
+        grammar: b"Rule {S} -> A",
+        lexicon: ANIMALS,
+        input: b"",
+        code: 2,
+        written: b"error: grammar 1:10: expected a symbol\n",
+    },
+    Row {
+        grammar: b"Rule {S -> A",
+        lexicon: ANIMALS,
+        input: b"",
+        code: 2,
+        written: b"error: grammar 1:13: expected '}'\n",
+    },
+    Row {
+        grammar: b"Rule S -> A .\nRule let",
+        lexicon: ANIMALS,
+        input: b"",
+        code: 2,
+        written: b"error: grammar 2:6: expected a symbol\n",
+    },
+    Row {
+        grammar: b"Rule S -> ( A",
+        lexicon: ANIMALS,
+        input: b"",
+        code: 2,
+        written: b"error: grammar 1:11: not built yet\n",
+    },
+    Row {
+        grammar: b"Rule S -> A {",
+        lexicon: ANIMALS,
+        input: b"",
+        code: 2,
+        written: b"error: grammar 1:13: not built yet\n",
+    },
+    Row {
+        grammar: b"Let A be <x> = y",
+        lexicon: ANIMALS,
+        input: b"",
+        code: 2,
+        written: b"error: grammar 1:1: not built yet\n",
+    },
+    Row {
+        grammar: b"Rule S -> A B C D E F G H I J K L M N O P Q R S T U V W X Y Z A B C D E F G",
+        lexicon: ANIMALS,
+        input: b"",
+        code: 2,
+        written: b"error: grammar 1:75: too many symbols\n",
     },
     Row {
         grammar: BARKS,
-        lexicon: b"\\w the\r\n\\c Det\r\n",
+        lexicon: b"x",
         input: b"",
         code: 3,
-        written: b"error: lexicon 1:1: not built yet\n",
+        written: b"error: lexicon 1: no word\n",
+    },
+    Row {
+        grammar: BARKS,
+        lexicon: b"\\w a",
+        input: b"",
+        code: 3,
+        written: b"error: lexicon 1: no category\n",
+    },
+    Row {
+        grammar: BARKS,
+        lexicon: b"\\w a\n\\c A\n\\w\n\\c",
+        input: b"",
+        code: 3,
+        written: b"error: lexicon 3: no word\n",
+    },
+    Row {
+        grammar: BARKS,
+        lexicon: b"\n\\w a b\n",
+        input: b"",
+        code: 3,
+        written: b"error: lexicon 2: several words\n",
+    },
+    Row {
+        grammar: BARKS,
+        lexicon: b"\\w a\n\\c A B\n",
+        input: b"",
+        code: 3,
+        written: b"error: lexicon 1: no category\n",
+    },
+    Row {
+        grammar: BARKS,
+        lexicon: b"\\w a\n\\c A\n\\f ; no\n  <agr> = x",
+        input: b"",
+        code: 3,
+        written: b"error: lexicon 4:3: not built yet\n",
+    },
+    Row {
+        grammar: BARKS,
+        lexicon: b"\\w a\x07",
+        input: b"",
+        code: 3,
+        written: b"error: lexicon 1:5: bad character\n",
     },
     Row {
         grammar: BARKS,
@@ -150,22 +248,121 @@ fn files_are_refused(rt: HostRuntime) -> Result<(), Fail> {
     for (k, row) in REFUSED.iter().enumerate() {
         let setting = well(row.grammar, row.lexicon, row.input);
         assert!(rt;
-            gives(&rt, alloc, &FILES, setting, row.code, row.written)?,
+            gives(&rt, alloc, FILES, setting, row.code, row.written)?,
             "row {k}"
         );
     }
     Ok(())
 }
 
+/// Words of another form.
+const OTHER_WORDS: &[&[&str]] = &[
+    &[],
+    &["g"],
+    &["g", "l", "x"],
+    &["g", "-l"],
+    &["g", "l", "--workers", "17"],
+    &["g", "l", "--workers"],
+    &["g", "l", "--limit", "1", "--limit", "1"],
+    &["g", "l", "--limit", "+5"],
+    &["g", "l", "--limit", "200001"],
+];
+
 #[test]
 fn words_are_refused(rt: HostRuntime) -> Result<(), Fail> {
     let usage = b"usage: patr GRAMMAR LEXICON [--workers N] [--limit N]\n";
     let alloc = rt.alloc();
     let setting = well(BARKS, ANIMALS, b"the dog barks\n");
-    assert!(rt; gives(&rt, alloc, &["g"], setting, 1, usage)?);
-    assert!(rt; gives(&rt, alloc, &["g", "l", "x"], setting, 1, usage)?);
-    assert!(rt; gives(&rt, alloc, &["g", "-l"], setting, 1, usage)?);
+    for (k, words) in OTHER_WORDS.iter().enumerate() {
+        assert!(rt; gives(&rt, alloc, words, setting, 1, usage)?, "row {k}");
+    }
     // a name that no file has
     assert!(rt; gives(&rt, alloc, &["g", "x"], setting, 4, b"")?);
+    Ok(())
+}
+
+/// A chain of rules whose edges occur again in one derivation.
+const AGAIN: &[u8] = b"Rule T -> S W Rule S -> A A Rule A -> B B Rule B -> C C Rule C ->";
+
+const ENDLESS: &[u8] = b"Rule A -> A_1";
+
+const WORD: &[u8] = b"\\w w\n\\c W\n\\w a\n\\c A";
+
+/// Words, a grammar, a lexicon, a sentence, and the reply under the limit that the words give.
+type Limited = (
+    &'static [&'static str],
+    &'static [u8],
+    &'static [u8],
+    &'static [u8],
+    &'static [u8],
+);
+
+const LIMITS: &[Limited] = &[
+    (
+        &["--limit", "11", "g", "l"],
+        BARKS,
+        ANIMALS,
+        b"the dog barks",
+        b"analyses 1\n1 (S (NP (Det the) (N dog)) (VP (V barks)))\n",
+    ),
+    (
+        &["g", "--limit=10", "l"],
+        BARKS,
+        ANIMALS,
+        b"the dog barks",
+        b"error: more than 10 edges\n",
+    ),
+    (&["--limit=007", "--", "g", "l"], BARKS, ANIMALS, b"", b""),
+    (
+        &["g", "l", "--limit", "1"],
+        ENDLESS,
+        WORD,
+        b"a",
+        b"error: more than 1 edges\n",
+    ),
+    (
+        &["g", "l", "--limit", "100", "--workers", "16"],
+        ENDLESS,
+        WORD,
+        b"a",
+        b"error: more than 100 edges\n",
+    ),
+    (
+        &["g", "l", "--limit", "200000"],
+        ENDLESS,
+        WORD,
+        b"a",
+        b"error: more than 200000 edges\n",
+    ),
+    (
+        &["g", "l"],
+        ENDLESS,
+        WORD,
+        b"a",
+        b"error: more than 20000 edges\n",
+    ),
+    (
+        &["g", "l", "--limit", "17"],
+        AGAIN,
+        WORD,
+        b"w",
+        b"analyses 1\n1 (T (S (A (B (C) (C)) (B (C) (C))) (A (B (C) (C)) (B (C) (C)))) (W w))\n",
+    ),
+    (
+        &["g", "l", "--limit", "16"],
+        AGAIN,
+        WORD,
+        b"w",
+        b"error: more than 16 edges\n",
+    ),
+];
+
+#[test]
+fn limits_are_kept(rt: HostRuntime) -> Result<(), Fail> {
+    let alloc = rt.alloc();
+    for (k, (words, grammar, lexicon, input, written)) in LIMITS.iter().enumerate() {
+        let setting = well(grammar, lexicon, input);
+        assert!(rt; gives(&rt, alloc, words, setting, 0, written)?, "row {k}");
+    }
     Ok(())
 }
