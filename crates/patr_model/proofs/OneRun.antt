@@ -1,8 +1,8 @@
 -- The words and the files of a run come to one opening, and a run has one text and one ending.
-use Rattle.std.proofs.Common.{◌≡◌, inl, inr, ℕ, Bool, List, ◌++◌, length, take, Option, Some, refl, sym, ap, ◌∙◌, subst, arith, IsUtf8, nat_lt, ltb-true, ltb-false, true, false, true≢false, codes, ◌^◌}
+use Rattle.std.proofs.Common.{◌≡◌, inl, inr, ℕ, Bool, List, ◌++◌, length, take, Option, Some, None, refl, sym, ap, ◌∙◌, subst, arith, IsUtf8, nat_lt, ltb-true, ltb-false, true, false, true≢false, codes, ◌^◌}
 use Rattle.std.proofs.Math.Seq.{take-length}
-use Rattle.patr_model.specs.Session.{Numbering, Grounds, State, Command, Replied, line, lines_of, whole_lines_of}
-use Rattle.patr_model.specs.Run.{Ending, Setup, Notations, Opening, Session, Refusal, BadGrammar, BadLexicon, first_state, IsSession, ended, quit, too_long, AfterGrammar, absent, long, fault, refused, built, AfterWords, read, IsOpening, Follows, IsOut}
+use Rattle.patr_model.specs.Session.{Numbering, Grounds, State, Command, LineForms, Replied, line, lines_of, whole_lines_of}
+use Rattle.patr_model.specs.Run.{Ending, Setup, Notations, Opening, Session, Refusal, BadGrammar, BadLexicon, first_state, IsSession, ended, quit, too_long, AfterGrammar, absent, long, fault, refused, built, AfterWords, read, IsOpening, Follows}
 use Rattle.patr_model.specs.Stages.{Stage}
 use Rattle.patr_model.specs.Productions.{Grammar}
 use Rattle.patr_model.specs.Faults.{StopsUtf8}
@@ -10,11 +10,15 @@ use Rattle.patr_model.specs.GrammarText as grammar_text
 use Rattle.patr_model.specs.GrammarText.{ReadsGrammar, GrammarFault, IsRead, RefusesGrammar, grammar_fault_line, HasGrammarFault}
 use Rattle.patr_model.specs.LexiconText as lexicon_text
 use Rattle.patr_model.specs.LexiconText.{EntryText, ReadsLexicon, LexiconFault, AreRead, RefusesLexicon, lexicon_fault_line, HasLexiconFault}
+use Rattle.patr_model.specs.Build.{build_fault_line}
+use Rattle.patr_model.specs.Renaming.{SameGrounds, IgnoresNumbers}
+use Rattle.patr_model.specs.Openings.{HasOneOpening, HasOneOut}
+use Rattle.patr_model.specs.Notations as stages
 use Rattle.patr_model.specs.Built as notations
 use Rattle.patr_model.specs.Built.{stage}
 use Rattle.patr_model.proofs.Maps.{some_inj}
 use Rattle.patr_model.proofs.Canonical.{least_texts}
-use Rattle.patr_model.proofs.RenamedRuns.{one_session, built_same}
+use Rattle.patr_model.proofs.RenamedRuns.{one_session, built_same, stage_same}
 
 -- Notations that read, refuse and build one thing, and read nothing that they refuse.
 module _ (notation : Notations) (N : Numbering)
@@ -161,7 +165,7 @@ one_lexicon_fault s b x y f g = f.2 ∙ (ap lexicon_fault_line (go f.0 g.0 f.1 g
     go (LexiconFault.Misread p) (LexiconFault.NotText m) h k = absurd (whole_text b m h.0 k)
     go (LexiconFault.Misread p) (LexiconFault.Misread q) h k = ap (λ z. LexiconFault.Misread z) (sym h.1 ∙ k.1)
 
-pub openings_are_one : (N : Numbering) (words : List (List ℕ)) (files : List ℕ → Option (List ℕ)) (o u : Opening) → IsOpening notations.built N words files o → IsOpening notations.built N words files u → o ≡ u
+pub openings_are_one : HasOneOpening notations.built
 openings_are_one N = one_opening notations.built N (one_grammar stage) (one_grammar_fault stage) (no_grammar_fault stage) (one_lexicon stage) (one_lexicon_fault stage) (no_lexicon_fault stage)
     (λ g l x y e f r t. absurd r) (λ g l x e s b r. r) (λ g l s s' b c. b ∙ sym c)
 
@@ -183,13 +187,31 @@ module _ (notation : Notations) (s : Grounds) (one_more : (st : State) (c : Comm
   session_one st input x y e f (too_long l b r t p) (too_long l' b' r' t' p') =
       (t ∙ (ap (λ z. z ++ line (codes "error: input longer than 16777216 bytes")) (one_end st (whole_lines_of (take (2 ^ 24) input)) b b' false false r r').0 ∙ sym t'), p ∙ sym p')
 
-follows_one : (o : Opening) (input x y : List ℕ) (e f : Ending) → Follows notations.built o input x e → Follows notations.built o input y f → (x ≡ y) × (e ≡ f)
-follows_one (Session s st) input x y e f h k = session_one notations.built s (λ st c x y m n. absurd m) st input x y e f h k
-follows_one (Refusal before end) input x y e f h k = (h.0 ∙ sym k.0, h.1 ∙ sym k.1)
+-- a run of any notations whose openings are one, and whose runs ignore numbers
+module _ (notation : Notations) (one_more : (s : Grounds) (st : State) (c : Command) (x y : List ℕ) → notation.lines.more s st c x → notation.lines.more s st c y → x ≡ y) where
+  follows_one : (o : Opening) (input x y : List ℕ) (e f : Ending) → Follows notation o input x e → Follows notation o input y f → (x ≡ y) × (e ≡ f)
+  follows_one (Session s st) input x y e f h k = session_one notation s (one_more s) st input x y e f h k
+  follows_one (Refusal before end) input x y e f h k = (h.0 ∙ sym k.0, h.1 ∙ sym k.1)
 
-pub runs_are_one : (N X : Numbering) (words : List (List ℕ)) (files : List ℕ → Option (List ℕ)) (input x y : List ℕ) (e f : Ending)
-    → IsOut notations.built N words files input x e → IsOut notations.built X words files input y f → (x ≡ y) × (e ≡ f)
-runs_are_one N X words files input x y e f h k =
-    let moved = built_same N X words files input x e h in
-    let same = openings_are_one X words files moved.0 k.0 moved.1 k.1 in
-    follows_one k.0 input x y e f (subst (λ o. Follows notations.built o input x e) same moved.2) k.2
+  one_out : HasOneOpening notation → IgnoresNumbers notation → HasOneOut notation
+  one_out openings ignores N X words files input x y e f h k =
+      let moved = ignores N X words files input x e h in
+      let same = openings X words files moved.0 k.0 moved.1 k.1 in
+      follows_one k.0 input x y e f (subst (λ o. Follows notation o input x e) same moved.2) k.2
+
+pub runs_are_one : HasOneOut notations.built
+runs_are_one = one_out notations.built (λ s st c x y m n. absurd m) openings_are_one built_same
+
+-- ---- the notations with path equations
+
+module _ (stage : Stage) (forms : LineForms) where
+  pub stage_openings : HasOneOpening (stages.notations stage forms)
+  stage_openings N = one_opening (stages.notations stage forms) N (one_grammar stage) (one_grammar_fault stage) (no_grammar_fault stage) (one_lexicon stage) (one_lexicon_fault stage) (no_lexicon_fault stage)
+      (λ g l x y e f r t.
+      let same = some_inj r.0 t.0 (sym r.1 ∙ t.1) in
+      (r.2 ∙ (ap build_fault_line same ∙ sym t.2), r.3 ∙ (ap stages.fault_ending same ∙ sym t.3)))
+      (λ g l x e s b r. let bad : None ≡ Some r.0 = sym b.0 ∙ r.1 in cc) (λ g l s s' b c. b.1 ∙ sym c.1)
+
+  pub stage_runs : ((s s' : Grounds) → SameGrounds s s' → (st : State) (c : Command) (x : List ℕ) → forms.more s st c x → forms.more s' st c x)
+      → ((s : Grounds) (st : State) (c : Command) (x y : List ℕ) → forms.more s st c x → forms.more s st c y → x ≡ y) → HasOneOut (stages.notations stage forms)
+  stage_runs more_same one_more = one_out (stages.notations stage forms) one_more stage_openings (stage_same stage forms more_same one_more)

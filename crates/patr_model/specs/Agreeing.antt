@@ -8,6 +8,7 @@ use Rattle.patr_model.specs.Renaming.{Each, Both, SameRow}
 use Rattle.patr_model.specs.Lexemes.{Words, by_text, key_of, without_index}
 use Rattle.patr_model.specs.Parsing.{Refusal, Expected, NotAConstituent, TwiceNamed, PathTooLong, TooManySymbols, TooManyPaths, TooDeep, LaterForm}
 use Rattle.patr_model.specs.Stages.{Stage}
+use Rattle.patr_model.specs.LexiconText.{EntryOf}
 use Rattle.patr_model.specs.Productions.{SymbolText, PathText, TermText, AtomText, OfPath, EquationText, FeatureText, Equates, Names, RuleText, Template, LexicalRule, Grammar, Outcome, Stands, NoRules, Refused, grammar}
 
 module _ {W V : Type 0} (S : W → V → Type 0) where
@@ -68,6 +69,14 @@ module _ {W V : Type 0} (S : W → V → Type 0) where
     pub start : S g.start h.start
     pub restrictor : Each (Each S) g.restrictor h.restrictor
     pub order : Each S g.order h.order
+
+  -- the same entry, on one line
+  pub record SameEntryText (e : EntryOf W) (f : EntryOf V) : Type 0 where
+    pub line : e.line ≡ f.line
+    pub word : S e.word f.word
+    pub category : S e.category f.category
+    pub gloss : Both S e.gloss f.gloss
+    pub features : SameRow SameFeatureText e.features f.features
 
   -- a token, or the end, is refused for one reason
   abbrev pub SameRefusal : Refusal W → Refusal V → Type 0

@@ -99,12 +99,16 @@ last_field test (f ∷ fs) = or_field test f (last_field test fs)
 -- ---- entries
 
 -- an entry: the line of its `\w`, its word, its category, its gloss where it has one, and its features
-pub record EntryText : Type 0 where
+pub record EntryOf (W : Type 0) : Type 0 where
   pub line : ℕ
-  pub word : List ℕ
-  pub category : List ℕ
-  pub gloss : Option (List ℕ)
-  pub features : Row (FeatureText (List ℕ))
+  pub word : W
+  pub category : W
+  pub gloss : Option W
+  pub features : Row (FeatureText W)
+
+-- an entry as its texts are written
+abbrev pub EntryText : Type 0
+EntryText = EntryOf (List ℕ)
 
 -- why records stand for no entries
 pub data EntryFault : Type 0 where

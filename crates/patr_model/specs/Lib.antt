@@ -25,7 +25,10 @@ pub mod GrammarText
 pub mod LexiconLines
 pub mod LexiconText
 pub mod CommandLine
+pub mod Build
 pub mod Built
+pub mod Notations
+pub mod Numbered
 pub mod Reading
 pub mod Stack
 pub mod Pairs
@@ -41,3 +44,4 @@ pub mod Renaming
 pub mod Agreeing
 pub mod Spelling
 pub mod Openings
+pub mod Builds

@@ -7,12 +7,13 @@ use Rattle.patr_model.specs.Structure.{Value, Atom, Node, Arc, Structure}
 use Rattle.patr_model.specs.Equation.{SlotPath, Term, AtomOf, PathOf, Equation}
 use Rattle.patr_model.specs.Derivation.{Rules, RuleVariant, EntryVariant}
 use Rattle.patr_model.specs.Grammar.{Row, Rows, Done, One, OneOf, Optional, None', Or, Symbol, WrittenPath, WrittenTerm, AtomText, PathText, WrittenEquation, WrittenRule, rule_variants}
-use Rattle.patr_model.specs.Chart.{Judgement}
 use Rattle.patr_model.specs.Plain.{plain}
 use Rattle.patr_model.specs.Solved.{solved}
-use Rattle.patr_model.specs.Session.{Numbering, Grounds, State, IsSentenceReply, IsLineReply, Replied}
-use Rattle.patr_model.specs.Run.{Ending, IsOut}
+use Rattle.patr_model.specs.Session.{Numbering, Grounds, State, Judge, LineForms, IsSentenceReply, IsLineReply, Replied}
+use Rattle.patr_model.specs.Run.{Ending, Notations, IsOut}
 use Rattle.patr_model.specs.Built.{built}
+use Rattle.patr_model.specs.Stages.{Stage}
+use Rattle.patr_model.specs.Notations.{lines_with_commands, notations}
 
 -- lists of one length, whose members belong together
 abbrev pub Each : {X Y : Type 0} → (X → Y → Type 0) → List X → List Y → Type 0
@@ -135,24 +136,32 @@ pub record SameGrounds (s s' : Grounds) : Type 0 where
   pub rules : SameRules s.names s'.names s.rules s'.rules
   pub order : Each (AreOne s.names s'.names) s.order s'.order
 
--- Replies do not depend on the numbering. Here the commands that speak of the grammar have no reply: notations that have some carry them besides.
-pub record RepliesAgree (judge : Rules → ℕ → Judgement) (s s' : Grounds) : Type 0 where
+-- Replies do not depend on the numbering.
+pub record RepliesAgree (judge : Judge) (forms : LineForms) (s s' : Grounds) : Type 0 where
   pub sentence : (st : State) (ws : List (List ℕ)) (x : List ℕ) → IsSentenceReply judge s st ws x → IsSentenceReply judge s' st ws x
   pub one : (st : State) (ws : List (List ℕ)) (x y : List ℕ) → IsSentenceReply judge s st ws x → IsSentenceReply judge s' st ws y → x ≡ y
-  pub line : (st : State) (bytes : List ℕ) (x : List ℕ) (st' : State) → IsLineReply judge built.lines s st bytes x st' → IsLineReply judge built.lines s' st bytes x st'
-  pub session : (st : State) (lines : List (List ℕ)) (x : List ℕ) (quit : Bool) → Replied judge built.lines s st lines x quit → Replied judge built.lines s' st lines x quit
-  pub one_line : (st : State) (bytes : List ℕ) (x y : List ℕ) (a b : State) → IsLineReply judge built.lines s st bytes x a → IsLineReply judge built.lines s' st bytes y b → (x ≡ y) × (a ≡ b)
-  pub one_session : (st : State) (lines : List (List ℕ)) (x y : List ℕ) (quit quit' : Bool) → Replied judge built.lines s st lines x quit → Replied judge built.lines s' st lines y quit' → (x ≡ y) × (quit ≡ quit')
+  pub line : (st : State) (bytes : List ℕ) (x : List ℕ) (st' : State) → IsLineReply judge forms s st bytes x st' → IsLineReply judge forms s' st bytes x st'
+  pub session : (st : State) (lines : List (List ℕ)) (x : List ℕ) (quit : Bool) → Replied judge forms s st lines x quit → Replied judge forms s' st lines x quit
+  pub one_line : (st : State) (bytes : List ℕ) (x y : List ℕ) (a b : State) → IsLineReply judge forms s st bytes x a → IsLineReply judge forms s' st bytes y b → (x ≡ y) × (a ≡ b)
+  pub one_session : (st : State) (lines : List (List ℕ)) (x y : List ℕ) (quit quit' : Bool) → Replied judge forms s st lines x quit → Replied judge forms s' st lines y quit' → (x ≡ y) × (quit ≡ quit')
 
--- replies do not depend on how symbols are numbered, by the plain chart and by the chart of solutions
+-- Replies do not depend on how symbols are numbered: to sentences alone by the plain chart, and with the commands of a session by the chart of solutions.
 pub record RepliesIgnoreNumbers : Type 0 where
-  pub plain : (s s' : Grounds) → SameGrounds s s' → RepliesAgree (λ g cat. plain g) s s'
-  pub solved : (s s' : Grounds) → SameGrounds s s' → RepliesAgree solved s s'
+  pub plain : (s s' : Grounds) → SameGrounds s s' → RepliesAgree (λ g cat. plain g) built.lines s s'
+  pub solved : (s s' : Grounds) → SameGrounds s s' → RepliesAgree solved lines_with_commands s s'
 
 -- Nor does what a run writes, and how it ends. There is no premise: both numberings are any.
+abbrev pub IgnoresNumbers : Notations → Type 0
+IgnoresNumbers notation = (N N' : Numbering) (words : List (List ℕ)) (files : List ℕ → Option (List ℕ)) (input text : List ℕ) (ending : Ending)
+    → IsOut notation N words files input text ending → IsOut notation N' words files input text ending
+
+-- so it is in the notations that are built
 abbrev pub RunsIgnoreNumbers : Type 0
-RunsIgnoreNumbers = (N N' : Numbering) (words : List (List ℕ)) (files : List ℕ → Option (List ℕ)) (input text : List ℕ) (ending : Ending)
-    → IsOut built N words files input text ending → IsOut built N' words files input text ending
+RunsIgnoreNumbers = IgnoresNumbers built
+
+-- and at each stage with path equations
+abbrev pub StageRunsIgnoreNumbers : Type 0
+StageRunsIgnoreNumbers = (stage : Stage) → IgnoresNumbers (notations stage lines_with_commands)
 
 -- the variants of one rule, read under two numberings, are one for one the same
 abbrev pub VariantsIgnoreNumbers : Type 0

@@ -1,16 +1,18 @@
 //! The definitions of a unification grammar, and laws about them.
 #![tactic(auto)]
 
+mod builds;
 mod field;
 mod front;
 mod notation;
+mod stages;
 
 ghost use Rattle.patr_model.specs.Samples.{SamplesOfMaps};
 ghost use Rattle.patr_model.specs.Laws.{SubsumptionIsOrder, UnifiersAreSame, LeastValuesExtend, UnifierIsLeastValue, PredictionDropsNone, SameAsUnifier, ClosedMarksAreSettled, ChartIsLicensed, NoMoreThanAll, OneReply, PlainIsSolvable, CategoriesAreOneAll, PlainChartIsSolved, CanonicalTexts, TextsAreRead, ReadingIsBack, LeastTextsAreOneAll, WalksAreWhole, Printing, WalksByStack, MapsByPairsAll, BuildsByStack, SortedIsInOrder, ReadsByItemsAll, TablesGive, TextsAreLocal};
 ghost use Rattle.patr_model.specs.Keys.{KeysTell};
 ghost use Rattle.patr_model.specs.Rounds.{RoundsFindChart, PairsAreCountedAll};
 ghost use Rattle.patr_model.specs.EquationStructures.{EquationsAreStructures};
-ghost use Rattle.patr_model.specs.Variants.{VariantSteps};
+ghost use Rattle.patr_model.specs.Variants.{VariantSteps, LeavesAreRules};
 ghost use Rattle.patr_model.specs.Chains.{ChainSteps};
 ghost use Rattle.patr_model.specs.Longer.{LongerKeeps};
 ghost use Rattle.patr_model.specs.Openings.{OpeningsAreOne, RunsAreOne, SentenceRepliesBegin, TablesAreNumbered};
@@ -18,9 +20,16 @@ ghost use Rattle.patr_model.specs.Agreeing.{ReadingIgnoresNumbers};
 ghost use Rattle.patr_model.specs.Spelling.{ClausesEnd, PathsAreSpelled, EquationsAreSpelled, RulesAreSpelled, GrammarsAreSpelled, EntriesAreSpelled};
 ghost use Rattle.patr_model.specs.Renaming.{RepliesIgnoreNumbers, RunsIgnoreNumbers, VariantsIgnoreNumbers, EachNumberingServes};
 
+pub use builds::{
+    builds_are_bare, builds_ignore_numbers, builds_ignore_words, builds_state_categories,
+    following_is_category, solved_go_by_category,
+};
 pub use field::{LineKind, Marker};
 pub use front::{Front, Kind};
 pub use notation::{Key, What};
+pub use stages::{
+    command_replies_begin, stage_openings_are_one, stage_runs_are_one, stage_runs_ignore_numbers,
+};
 
 /// Subsumption is an order.
 pub fn subsumption_is_order()
@@ -180,6 +189,11 @@ pub fn equations_are_structures()
 /// A rule variant's least value is found equation by equation.
 pub fn variants_are_built()
     ensures { VariantSteps }
+{}
+
+/// An entry without lexical rules is solved like a rule of one constituent.
+pub fn leaves_are_rules()
+    ensures { LeavesAreRules }
 {}
 
 /// A chain's least value is found rule by rule.

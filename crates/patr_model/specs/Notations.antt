@@ -1,0 +1,53 @@
+-- The notations with path equations, as a run reads them, for each stage and whatever forms the lines of a session have.
+--     notations s forms      what a run reads at the stage s
+--     lines_with_commands    lines with sentences, and with the commands that speak of the session alone
+use Rattle.std.specs.Prelude.{◌≡◌, ℕ, List, Option, Some, None, option_and_then, codes}
+use Rattle.patr_model.specs.Solved.{solved}
+use Rattle.patr_model.specs.Session.{LineForms, Command, Limit, Features, Count, Show, Grammar, Make, Quit, command_of, line}
+use Rattle.patr_model.specs.Run.{Ending, BadGrammar, BadLexicon, Notations}
+use Rattle.patr_model.specs.Stages.{Stage}
+use Rattle.patr_model.specs.Productions as text
+use Rattle.patr_model.specs.GrammarText.{ReadsGrammar, HasGrammarFault}
+use Rattle.patr_model.specs.LexiconText.{EntryText, ReadsLexicon, HasLexiconFault}
+use Rattle.patr_model.specs.CommandLine.{command_words}
+use Rattle.patr_model.specs.Build.{BuildFault, InGrammar, InLexicon, build_fault, build_fault_line, grounds}
+
+-- how a run ends whose build refuses a grammar or a lexicon
+abbrev pub fault_ending : BuildFault → Ending
+fault_ending (InGrammar f) = BadGrammar
+fault_ending (InLexicon f) = BadLexicon
+
+-- the commands that speak of the session alone; none for those that speak of the grammar
+abbrev pub session_command : Command → Option Command
+session_command (Limit n) = Some (Limit n)
+session_command (Features b) = Some (Features b)
+session_command (Count b) = Some (Count b)
+session_command (Show w) = None
+session_command Grammar = None
+session_command (Make n) = None
+session_command Quit = Some Quit
+
+-- Sentences, and the commands that speak of the session alone: the other lines that begin with `:` are bad commands.
+abbrev pub lines_with_commands : LineForms
+lines_with_commands = record {
+  too_long = line (codes "error: line too long");
+  not_text = line (codes "error: line is not UTF-8");
+  command = λ ws. option_and_then session_command (command_of ws);
+  more = λ s st c text. ⊥;
+}
+
+-- What a run reads at a stage: a build refuses the first rule or entry that is too large, and else makes the variants; edges are judged by unification.
+abbrev pub notations : Stage → LineForms → Notations
+notations stage forms = record {
+  grammar_text = text.Grammar (List ℕ);
+  lexicon_text = List EntryText;
+  words = command_words;
+  reads_grammar = λ N. ReadsGrammar stage;
+  grammar_fault = λ N. HasGrammarFault stage;
+  reads_lexicon = λ N. ReadsLexicon stage;
+  lexicon_fault = λ N. HasLexiconFault stage;
+  refuses = λ N g l message ending. (f : BuildFault) × (build_fault g l ≡ Some f) × (message ≡ build_fault_line f) × (ending ≡ fault_ending f);
+  builds = λ N g l s. (build_fault g l ≡ None) × (s ≡ grounds N g l);
+  judge = solved;
+  lines = forms;
+}
