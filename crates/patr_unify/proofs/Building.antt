@@ -89,10 +89,10 @@ module _ (v : Shown) (s : IsShown v) (w t u : Contents) (l : ℕ) (r : Value) (p
   stack_reached a x q h o k (inr m) = has.ends k (inl m)
 
   -- there is room for it
-  pub room_to_enter : (ls : List ℕ) → ((k : ℕ) → IsSide v.structure l r k → IsIn ls k) → length ls ≤ w.visit_room → length rest ≡ length t.visits → HasRoomToEnter v t (key v top)
-  room_to_enter ls covers room size a x q h o =
+  pub room_to_enter : (ls : List ℕ) → ((k : ℕ) → IsSide v.structure l r k → IsIn ls k) → length ls ≤ w.visit_room → length ls ≤ w.pair_room + 1 → length rest ≡ length t.visits → length t.pairs ≡ length rest → HasRoomToEnter v t (key v top)
+  room_to_enter ls covers room few size pairs a x q h o =
       let fits = stack_room (key v q ∷ key v top ∷ rest) ls (falling_once has.rank (key v q ∷ key v top ∷ rest) (entering_falls a x q h o)) (λ k m. covers k (is_side k (stack_reached a x q h o k m))) in
-      omega (arith, fits, room, size, has.still.visit_room)
+      (omega (arith, fits, room, size, has.still.visit_room), omega (arith, fits, few, pairs, has.still.pair_room))
 
   -- it is entered
   pub came_to : (come : HasComeTo v t u top) → HasCopied v w u l r block nodes arcs (key v come.2 ∷ key v top ∷ rest)

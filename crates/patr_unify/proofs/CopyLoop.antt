@@ -13,12 +13,15 @@ use Rattle.patr_marks.proofs.Reach.{copy_starts}
 use Rattle.patr_arena.specs.Blocks.{OldIsHeld}
 use Rattle.patr_arena.specs.Shown.{Shown, IsShown}
 use Rattle.patr_arena.specs.declared.value.Feature.{Feature}
+use Rattle.patr_scratch.specs.declared.Copied.{Copied}
 use Rattle.patr_scratch.specs.declared.Place.{Place}
+use Rattle.patr_scratch.specs.declared.Target.{Target}
 use Rattle.patr_scratch.specs.declared.Visit.{Visit}
 use Rattle.patr_scratch.specs.declared.Visit.TheVariants as visit
 use Rattle.patr_scratch.specs.Contents.{Contents}
 use Rattle.patr_unify.specs.declared.draft.Draft.{Draft}
-use Rattle.patr_unify.specs.Copying.{HasFinished, HasGoneOn, MarkFits, copying_by}
+use Rattle.patr_unify.specs.declared.cursor.Cursor.{Cursor}
+use Rattle.patr_unify.specs.Copying.{HasFinished, HasGoneBack, HasGoneOn, IsCopyMarked, MarkFits, copying_by}
 use Rattle.patr_unify.specs.Deciding.{IsEndOfLeft, IsSettledFor}
 use Rattle.patr_unify.specs.Merging.{both}
 use Rattle.patr_unify.specs.Reading.{key, slot_of}
@@ -26,7 +29,7 @@ use Rattle.patr_unify.specs.Walking.{IsVisited, end_value, visit_of}
 use Rattle.patr_unify.specs.Stepping.{upto}
 use Rattle.patr_unify.proofs.Outcomes.{key_below}
 use Rattle.patr_unify.proofs.Running.{total_ext, upto_in, upto_once}
-use Rattle.patr_unify.proofs.Worked.{HasCopied}
+use Rattle.patr_unify.proofs.Worked.{HasCopied, IsWorked}
 
 -- where the copy begins
 pub copied_starts : (v : Shown) (w t : Contents) (l : ℕ) (r : Value) (p : List ℕ) (set : IsSettledFor v w l p r) → marks_settled.Fits (IsSide v.structure l r) (copying_by v w) → (rank : ℕ → ℕ)
@@ -78,9 +81,10 @@ copied_starts v w t l r p set fits rank falls root from visited =
     not_entered : (k : ℕ) → visit_of v w k ≡ visit.Entered → ⊥
     not_entered k e = unseen_visit (visit_of v w k) e (set.unseen k (λ h. two_visits (visit_of v w k) e (set.left k h)))
 
--- the stack may change beside it
-pub copied_moved : (v : Shown) (w t u : Contents) (l : ℕ) (r : Value) (block : List (List Feature)) (nodes arcs : ℕ) (stack : List ℕ) (ps : List Place) → HasCopied v w t l r block nodes arcs stack → u ≡ record t { visits = ps } → HasCopied v w u l r block nodes arcs stack
-copied_moved v w t u l r block nodes arcs stack ps h e = subst (λ z. HasCopied v w z l r block nodes arcs stack) (sym e) (record {
+-- the stacks may change beside it
+pub copied_moved : (v : Shown) (w t u : Contents) (l : ℕ) (r : Value) (block : List (List Feature)) (nodes arcs : ℕ) (stack : List ℕ) (ps : List Place) (qs : List (Target × Target)) → HasCopied v w t l r block nodes arcs stack
+    → u ≡ record t { visits = ps; pairs = qs } → HasCopied v w u l r block nodes arcs stack
+copied_moved v w t u l r block nodes arcs stack ps qs h e = subst (λ z. HasCopied v w z l r block nodes arcs stack) (sym e) (record {
   still = record { places = h.still.places; pair_room = h.still.pair_room; visit_room = h.still.visit_room; forward = h.still.forward; added = h.still.added };
   rank = h.rank;
   falls = h.falls;
@@ -117,10 +121,29 @@ enter_two visit.Unseen n = refl
 enter_two visit.Entered n = absurd (n refl)
 enter_two visit.Left n = refl
 
+marked_keeps : (v : Shown) (u m : Contents) (k : ℕ) (d : Copied) → IsCopyMarked v u m k d → IsWorked u m × ((j : ℕ) → visit_of v m j ≡ visit_of v u j) × (m.visits ≡ u.visits) × (m.pairs ≡ u.pairs)
+marked_keeps v u m k d h = (
+  record { places = h.places; pair_room = h.pair_room; visit_room = h.visit_room; forward = h.forward; added = h.added },
+  λ j. h.visit (slot_of (length v.structure) j),
+  h.visits,
+  h.pairs,
+)
+
+-- what a copied end leaves
+pub finish_keeps : (v : Shown) (u m : Contents) (top : Place) (old new : Draft) → HasFinished v u m top old new → IsWorked u m × ((k : ℕ) → visit_of v m k ≡ visit_of v u k) × (m.visits ≡ u.visits) × (m.pairs ≡ u.pairs)
+finish_keeps v u m top old new (inl h) = marked_keeps v u m (key v top) _ h.marked
+finish_keeps v u m top old new (inr h) = marked_keeps v u m (key v top) _ h.marked
+
+-- going back, no visit changes
+pub gone_visits : (v : Shown) (u x : Contents) (top : Place) (old new : Draft) (c : Cursor) → HasGoneBack v u x top old new c → ((k : ℕ) → visit_of v x k ≡ visit_of v u k) × (x.visits ≡ u.visits)
+gone_visits v u x top old new c g =
+    let kept = finish_keeps v u g.0 top old new g.2 in
+    ((λ k. ap (λ z. visit_of v z k) g.3 ∙ kept.1 k), ap (λ (z : Contents). z.visits) g.3 ∙ kept.2)
+
 -- with each turn less is left to enter
-pub going_falls : (v : Shown) → IsShown v → (t u x : Contents) (top : Place) (old new : Draft) → u ≡ record t { visits = u.visits } → t.visits ≡ u.visits ++ top ∷ [] → HasGoneOn v u x top old new
+pub going_falls : (v : Shown) → IsShown v → (t u x : Contents) (top : Place) (old new : Draft) (c : Cursor) → u ≡ record t { visits = u.visits } → t.visits ≡ u.visits ++ top ∷ [] → HasGoneOn v u x top old new c
     → total (unentered_of v x) (upto (2 * length v.structure)) + length x.visits < total (unentered_of v t) (upto (2 * length v.structure)) + length t.visits
-going_falls v s t u x top old new e q (inl a) =
+going_falls v s t u x top old new c e q (inl a) =
     let come = a.0 in
     let p = come.2 in
     let all = upto (2 * length v.structure) in
@@ -131,15 +154,11 @@ going_falls v s t u x top old new e q (inl a) =
     let size = ap (length {A = Place}) q ∙ length-append u.visits (top ∷ []) in
     let pushed = ap (length {A = Place}) come.6 ∙ length-append u.visits (top ∷ p ∷ []) in
     omega (arith, same, change, was, is, size, pushed)
-going_falls v s t u x top old new e q (inr a) =
+going_falls v s t u x top old new c e q (inr a) =
     let all = upto (2 * length v.structure) in
     let same : total (unentered_of v u) all ≡ total (unentered_of v t) all = ap (λ z. total (unentered_of v z) all) e in
-    let kept = marked_visits (a.1) in
+    let kept = gone_visits v u x top old new c a in
     let left : total (unentered_of v x) all ≡ total (unentered_of v u) all = total_ext (unentered_of v x) (unentered_of v u) all (λ k. ap to_enter (kept.0 k)) in
     let size = ap (length {A = Place}) q ∙ length-append u.visits (top ∷ []) in
     let stack = ap (length {A = Place}) kept.1 in
     omega (arith, same, left, size, stack)
-  where
-    marked_visits : HasFinished v u x top old new → ((k : ℕ) → visit_of v x k ≡ visit_of v u k) × (x.visits ≡ u.visits)
-    marked_visits (inl h) = (λ k. h.marked.visit (slot_of (length v.structure) k), h.marked.visits)
-    marked_visits (inr h) = (λ k. h.marked.visit (slot_of (length v.structure) k), h.marked.visits)

@@ -45,7 +45,7 @@ noted_more ks js ws us (Atom c) f g h = tt
 noted_more ks js ws us (Node k) f g (inl h) = inl (f k h)
 noted_more ks js ws us (Node k) f g (inr h) = g k h
 
-at_more : (S : Structure) (q : List ℕ) (v w z : Value) (a : ℕ) → at S v q ≡ Some w → arc S w a ≡ Some z → at S v (q ++ (a ∷ [])) ≡ Some z
+pub at_more : (S : Structure) (q : List ℕ) (v w z : Value) (a : ℕ) → at S v q ≡ Some w → arc S w a ≡ Some z → at S v (q ++ (a ∷ [])) ≡ Some z
 at_more S [] v w z a h e = let s : v ≡ w = cc in ap (option_and_then (λ u. Some u)) (ap (λ u. arc S u a) s ∙ e)
 at_more S (b ∷ q) v w z a h e =
     let s = and_then_some (arc S v b) (λ u. at S u q) w h in

@@ -1,5 +1,5 @@
 -- How a decision begins and ends.
-use Rattle.std.proofs.Common.{◌≡◌, ℕ, zero, suc, ◌+◌, ◌<◌, ◌⊎◌, inl, inr, Option, Some, None, List, [], ◌∷◌, ◌++◌, length, length-append, map, replicate, get_or, refl, sym, ap, ◌∙◌, subst, arith}
+use Rattle.std.proofs.Common.{◌≡◌, ℕ, zero, suc, ◌+◌, ◌<◌, ◌≤◌, ◌⊎◌, inl, inr, Option, Some, None, List, [], ◌∷◌, ◌++◌, length, length-append, map, replicate, get_or, refl, sym, ap, ◌∙◌, subst, arith}
 use Rattle.std.proofs.lemmas.List.{length-map, length-replicate}
 use Rattle.patr_model.specs.Structure.{Value, Node, Arc, Arcs, Structure, IsStructure, IsValue, at}
 use Rattle.patr_model.specs.Subsumption.{TakesBoth}
@@ -27,21 +27,13 @@ use Rattle.patr_unify.specs.Reading.{AreHeld, LinksHeld, OptionIsHeld, added_of,
 use Rattle.patr_unify.specs.Stepping.{Covers, IsRunning}
 use Rattle.patr_unify.specs.Walking.{IsLedBack, IsStill, IsWalkable, IsWalkedOff}
 use Rattle.patr_unify.proofs.Keys.{target_held, target_value}
+use Rattle.patr_unify.proofs.Edges.{in_left, in_right, reach_edges}
 use Rattle.patr_unify.proofs.Running.{total_ext}
 use Rattle.patr_unify.proofs.Walked.{still_added, still_both, still_end, still_ends, still_forward, still_held}
 
 -- all side nodes: the right side's behind those of the left
 abbrev pub both_lists : ℕ → List ℕ → List ℕ → List ℕ
 both_lists n ls rs = ls ++ map (λ k. n + k) rs
-
-pub in_left : (xs ys : List ℕ) (k : ℕ) → IsIn xs k → IsIn (xs ++ ys) k
-in_left [] ys k h = absurd h
-in_left (x ∷ xs) ys k (inl e) = inl e
-in_left (x ∷ xs) ys k (inr h) = inr (in_left xs ys k h)
-
-pub in_right : (xs ys : List ℕ) (k : ℕ) → IsIn ys k → IsIn (xs ++ ys) k
-in_right [] ys k h = h
-in_right (x ∷ xs) ys k h = inr (in_right xs ys k h)
 
 pub in_cases : (xs ys : List ℕ) (k : ℕ) → IsIn (xs ++ ys) k → IsIn xs k ⊎ IsIn ys k
 in_cases [] ys k h = inr h
@@ -109,10 +101,22 @@ module _ (S : Structure) (s : IsStructure S) (l : ℕ) (r : Value) (hl : l < len
       let four = total_ext (λ k. f (length S + k)) (λ k. length (own S k)) rs (λ k. ap (length {A = Arc}) (own_right S k) ∙ shifted_length (length S) (own S k)) in
       omega (arith, one, two, three, four)
 
+-- there are at most two more of them than arcs: the roots
+pub all_few : (S : Structure) → IsStructure S → (l : ℕ) (r : Value) → l < length S → (ls rs : List ℕ) → IsReachOf S (Node l) ls → IsReachOf S r rs
+    → length (both_lists (length S) ls rs) ≤ total (λ k. length (own (sides S) k)) (both_lists (length S) ls rs) + 2
+all_few S s l r hl ls rs left right =
+    let arcs = all_arcs S s l r hl ls rs left right in
+    let size = length-append ls (map (λ k. length S + k) rs) in
+    let mapped = length-map rs (λ k. length S + k) in
+    let one = reach_edges S (Node l) ls left in
+    let two = reach_edges S r rs right in
+    omega (arith, arcs, size, mapped, one, two)
+
 pub all_covers : (v : Shown) → IsShown v → (l : ℕ) (r : Value) → l < length v.structure → (ls rs : List ℕ) → IsReachOf v.structure (Node l) ls → IsReachOf v.structure r rs → Covers v l r (both_lists (length v.structure) ls rs)
 all_covers v s l r hl ls rs left right = record {
   once = all_once v.structure s.structure l r hl ls rs left right;
   all = all_covered v.structure s.structure l r hl ls rs left right;
+  few = all_few v.structure s.structure l r hl ls rs left right;
 }
 
 -- after `begin` nothing is marked
@@ -200,23 +204,25 @@ module _ (v : Shown) (s : IsShown v) (w : Contents) (l : ℕ) (hl : l < length v
   )
 
 -- where the walk begins
-abbrev pub walkable : (v : Shown) → IsShown v → (w : Contents) (l : ℕ) (r target : Value) (ks : List ℕ) → Covers v l r ks → IsRunning v w l r target ks → IsWalkable v w l
-walkable v s w l r target ks c i = record {
+abbrev pub walkable : (v : Shown) → IsShown v → (w : Contents) (l : ℕ) (r target : Value) (ks : List ℕ) → Covers v l r ks → IsRunning v w l r target ks → w.pairs ≡ [] → IsWalkable v w l
+walkable v s w l r target ks c i none = record {
   held = i.held;
   log = i.log;
   has_log = i.has_log;
   short = omega (arith, i.pair_room);
   unseen = λ k. i.unseen (slot_of (length v.structure) k);
   empty = i.empty;
+  no_pairs = none;
   ks = ks;
   room = i.rooms.for_visits;
+  pair_room = omega (arith, c.few, i.rooms.for_pairs);
   reached = λ root n k e h. c.all k (reached_side v.structure l r (state_of v w i.log) i.run.within root (root_side v.structure l r (state_of v w i.log) i.run.within root e) n k h);
 }
 
 -- where it is led back, nothing takes both sides
-pub circle_refutes : (v : Shown) (s : IsShown v) (w : Contents) (l : ℕ) (r target : Value) (ks : List ℕ) (c : Covers v l r ks) (i : IsRunning v w l r target ks) → l < length v.structure → IsValue v.structure target
-    → (p : List ℕ) → at v.structure (Node l) p ≡ Some target → IsLedBack v w l (walkable v s w l r target ks c i) → (G : Structure) (g : Value) → TakesBoth v.structure (Node l) p v.structure r G g → ⊥
-circle_refutes v s w l r target ks c i hl ht p there b =
+pub circle_refutes : (v : Shown) (s : IsShown v) (w : Contents) (l : ℕ) (r target : Value) (ks : List ℕ) (c : Covers v l r ks) (i : IsRunning v w l r target ks) (none : w.pairs ≡ []) → l < length v.structure → IsValue v.structure target
+    → (p : List ℕ) → at v.structure (Node l) p ≡ Some target → IsLedBack v w l (walkable v s w l r target ks c i none) → (G : Structure) (g : Value) → TakesBoth v.structure (Node l) p v.structure r G g → ⊥
+circle_refutes v s w l r target ks c i none hl ht p there b =
     cycle_ends v.structure l p r target (state_of v w i.log) s.structure hl ht there i.run b.0 b.1 b.2 b.3 b.4 b.5 b.6 b.7 b.8
 
 -- the first pair is pushed
@@ -273,7 +279,7 @@ marks_same f g a b e h = λ i. record { forward = λ k. e k i; added = λ k. h k
 
 -- where the walk is done, the scratch is settled
 module _ (v : Shown) (s : IsShown v) (w t : Contents) (l : ℕ) (r target : Value) (ks : List ℕ) (c : Covers v l r ks) (i : IsRunning v w l r target ks) (hl : l < length v.structure) (ht : IsValue v.structure target)
-    (p : List ℕ) (there : at v.structure (Node l) p ≡ Some target) (none : w.pairs ≡ []) (off : IsWalkedOff v w t l (walkable v s w l r target ks c i)) where
+    (p : List ℕ) (there : at v.structure (Node l) p ≡ Some target) (none : w.pairs ≡ []) (off : IsWalkedOff v w t l (walkable v s w l r target ks c i none)) where
   abbrev state : State
   state = state_of v w i.log
 
@@ -303,12 +309,12 @@ module _ (v : Shown) (s : IsShown v) (w t : Contents) (l : ℕ) (r target : Valu
     held = still_held v w t off.still i.held;
     marks = marks_settled;
     at_sides = sides_only;
-    ending = still_ends v w t l (walkable v s w l r target ks c i) off.still;
+    ending = still_ends v w t l (walkable v s w l r target ks c i none) off.still;
     uncopied = λ j. off.still.copied j ∙ i.uncopied j;
-    no_pairs = off.still.pairs ∙ none;
+    no_pairs = off.no_pairs;
     no_visits = off.empty;
     room = room;
-    left = λ k h. off.left k (left_ends v w t l (walkable v s w l r target ks c i) off k h);
-    reached = λ k h. ends_left v w t l (walkable v s w l r target ks c i) off k (off.in_order k h);
-    unseen = λ k h. off.unseen k (λ m. h (ends_left v w t l (walkable v s w l r target ks c i) off k m));
+    left = λ k h. off.left k (left_ends v w t l (walkable v s w l r target ks c i none) off k h);
+    reached = λ k h. ends_left v w t l (walkable v s w l r target ks c i none) off k (off.in_order k h);
+    unseen = λ k h. off.unseen k (λ m. h (ends_left v w t l (walkable v s w l r target ks c i none) off k m));
   }

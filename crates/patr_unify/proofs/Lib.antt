@@ -9,6 +9,8 @@ pub mod Takes
 pub mod Walks
 pub mod Visits
 pub mod Walked
+pub mod Pauses
+pub mod Edges
 pub mod Deciding
 pub mod Reaching
 pub mod Keeping

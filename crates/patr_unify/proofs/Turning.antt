@@ -1,5 +1,5 @@
 -- The turns of the copy's loop.
-use Rattle.std.proofs.Common.{◌≡◌, ℕ, ◌+◌, ◌<◌, ◌≤◌, inl, inr, List, [], ◌∷◌, ◌++◌, length, length-append, map, refl, sym, ap, ◌∙◌, subst, arith}
+use Rattle.std.proofs.Common.{◌≡◌, ℕ, ◌+◌, ◌<◌, ◌≤◌, inl, inr, None, List, [], ◌∷◌, ◌++◌, length, length-append, map, refl, sym, ap, ◌∙◌, subst, arith}
 use Rattle.std.proofs.lemmas.List.{length-map}
 use Rattle.patr_model.specs.Structure.{Value, Node}
 use Rattle.patr_marks.specs.Machine.{IsIn}
@@ -14,17 +14,21 @@ use Rattle.patr_scratch.specs.declared.Place.{Place}
 use Rattle.patr_scratch.specs.declared.Visit.TheVariants as visit
 use Rattle.patr_scratch.specs.Contents.{Contents}
 use Rattle.patr_unify.specs.declared.draft.Draft.{Draft}
-use Rattle.patr_unify.specs.Copying.{HasGoneOn, HasRoomToEnter, IsEndRef, IsMade}
+use Rattle.patr_unify.specs.declared.cursor.Cursor.{Cursor}
+use Rattle.patr_unify.specs.Copying.{HasFinished, HasGoneOn, HasRoomToEnter, IsEndRef, IsMade}
 use Rattle.patr_unify.specs.Deciding.{IsEndOfLeft, IsSettledFor, marks_by}
 use Rattle.patr_unify.specs.Reading.{forward_of, key}
-use Rattle.patr_unify.specs.Walking.{IsVisited, VisitsHeld, end_value, stack_of}
+use Rattle.patr_unify.specs.Merging.{both}
+use Rattle.patr_unify.specs.Walking.{ArePaused, IsFoundAt, IsTakenFrom, IsVisited, VisitsHeld, cursors_of, end_value, stack_of}
 use Rattle.patr_unify.proofs.Building.{came_to, renewed, room_to_enter, stayed}
 use Rattle.patr_unify.proofs.Worked.{HasCopied, worked_end}
-use Rattle.patr_unify.proofs.CopyLoop.{copied_moved, copied_starts}
+use Rattle.patr_unify.proofs.CopyLoop.{copied_moved, copied_starts, finish_keeps, gone_visits}
 use Rattle.patr_unify.proofs.Deciding.{all_covered, both_lists}
 use Rattle.patr_unify.proofs.Making.{made}
 use Rattle.patr_unify.proofs.Reaching.{copy_fits, image_falls, numbered, reached_is_end}
-use Rattle.patr_unify.proofs.Walked.{held_pushed, stack_length, stack_popped, stack_pushed}
+use Rattle.patr_unify.proofs.Edges.{reach_edges}
+use Rattle.patr_unify.proofs.Pauses.{IsOnward, onward_visited, pairs_length, stack_length, stack_popped, stack_pushed, went_back, went_down}
+use Rattle.patr_unify.proofs.Walked.{held_pushed}
 
 module _ (v : Shown) (s : IsShown v) (w : Contents) (l : ℕ) (p : List ℕ) (r : Value) (hl : l < length v.structure) (set : IsSettledFor v w l p r) where
   end_side : (k : ℕ) → IsEndOfLeft v w l k → IsSide v.structure l r k
@@ -42,6 +46,14 @@ module _ (v : Shown) (s : IsShown v) (w : Contents) (l : ℕ) (p : List ℕ) (r 
       let size = length-append set.room.left.list (map (λ k. length v.structure + k) set.room.right.list) in
       let mapped = length-map set.room.right.list (λ k. length v.structure + k) in
       omega (arith, size, mapped, set.room.left.nodes_are, set.room.right.nodes_are, set.room.room.for_visits)
+
+  lists_few : length lists ≤ w.pair_room + 1
+  lists_few =
+      let size = length-append set.room.left.list (map (λ k. length v.structure + k) set.room.right.list) in
+      let mapped = length-map set.room.right.list (λ k. length v.structure + k) in
+      let left = reach_edges v.structure (Node l) set.room.left.list set.room.left.is in
+      let right = reach_edges v.structure r set.room.right.list set.room.right.is in
+      omega (arith, size, mapped, left, right, set.room.left.arcs_are, set.room.right.arcs_are, set.room.room.for_pairs)
 
   pub first_room : length w.visits < w.visit_room
   first_room =
@@ -68,38 +80,66 @@ module _ (v : Shown) (s : IsShown v) (w : Contents) (l : ℕ) (p : List ℕ) (r 
   pub at_top : (t u : Contents) (top : Place) (block : List (List Feature)) (nodes arcs : ℕ) → HasCopied v w t l r block nodes arcs (stack_of v t.visits) → u ≡ record t { visits = u.visits } → t.visits ≡ u.visits ++ top ∷ []
       → HasCopied v w u l r block nodes arcs (key v top ∷ stack_of v u.visits)
   at_top t u top block nodes arcs h e q =
-      copied_moved v w t u l r block nodes arcs (key v top ∷ stack_of v u.visits) u.visits (subst (HasCopied v w t l r block nodes arcs) (ap (stack_of v) q ∙ stack_popped v u.visits top) h) e
+      copied_moved v w t u l r block nodes arcs (key v top ∷ stack_of v u.visits) u.visits t.pairs (subst (HasCopied v w t l r block nodes arcs) (ap (stack_of v) q ∙ stack_popped v u.visits top) h) e
 
-  pub top_room : (u : Contents) (top : Place) (block : List (List Feature)) (nodes arcs : ℕ) → IsHeld v top.block top.offset → HasCopied v w u l r block nodes arcs (key v top ∷ stack_of v u.visits) → HasRoomToEnter v u (key v top)
-  top_room u top block nodes arcs held h =
-      room_to_enter v s w u u l r p set (copy_fits v s w l p r hl set) end_side block nodes arcs top held (stack_of v u.visits) h lists covered_all lists_fit (stack_length v u.visits)
+  pub top_room : (u : Contents) (top : Place) (c : Cursor) (block : List (List Feature)) (nodes arcs : ℕ) → IsHeld v top.block top.offset → HasCopied v w u l r block nodes arcs (key v top ∷ stack_of v u.visits)
+      → ArePaused v u visit.Entered (key v top ∷ stack_of v u.visits) c (cursors_of u.pairs) → HasRoomToEnter v u (key v top)
+  top_room u top c block nodes arcs held h paused =
+      room_to_enter v s w u u l r p set (copy_fits v s w l p r hl set) end_side block nodes arcs top held (stack_of v u.visits) h lists covered_all lists_fit lists_few (stack_length v u.visits)
+      (pairs_length v u visit.Entered (stack_of v u.visits) u.pairs paused.1)
+
+  -- an end was copied
+  done_with : (u m : Contents) (top : Place) (old new : Draft) → IsHeld v top.block top.offset → HasCopied v w u l r old.block old.nodes old.arcs (key v top ∷ stack_of v u.visits) → IsFoundAt v u visit.Entered (both v u (key v top)) None
+      → HasFinished v u m top old new → HasCopied v w m l r new.block new.nodes new.arcs (stack_of v m.visits)
+  done_with u m top old new held h none (inl done) =
+      let next = stayed v s w u m l r p set (copy_fits v s w l p r hl set) end_side old.block old.nodes old.arcs top held (stack_of v u.visits) h none done.kept done.marked new.nodes new.arcs done.nodes done.arcs in
+      subst (λ b. HasCopied v w m l r b new.nodes new.arcs (stack_of v m.visits)) (sym done.block) (subst (HasCopied v w m l r old.block new.nodes new.arcs) (sym (ap (stack_of v) done.marked.visits)) next)
+  done_with u m top old new held h none (inr done) =
+      let next = renewed v s w u m l r p set (copy_fits v s w l p r hl set) end_side old.block old.nodes old.arcs top held (stack_of v u.visits) h none done.changed done.features done.node done.marked new.nodes new.arcs done.nodes done.arcs in
+      subst (λ b. HasCopied v w m l r b new.nodes new.arcs (stack_of v m.visits)) (sym done.block)
+      (subst (HasCopied v w m l r (old.block ++ done.features ∷ []) new.nodes new.arcs) (sym (ap (stack_of v) done.marked.visits)) next)
 
   -- and one turn is made
-  pub turned : (u x : Contents) (top : Place) (old new : Draft) → IsHeld v top.block top.offset → HasCopied v w u l r old.block old.nodes old.arcs (key v top ∷ stack_of v u.visits) → HasGoneOn v u x top old new
+  pub turned : (u x : Contents) (top : Place) (old new : Draft) (c : Cursor) → IsHeld v top.block top.offset → HasCopied v w u l r old.block old.nodes old.arcs (key v top ∷ stack_of v u.visits) → HasGoneOn v u x top old new c
       → HasCopied v w x l r new.block new.nodes new.arcs (stack_of v x.visits)
-  turned u x top old new held h (inl (come, same)) =
+  turned u x top old new c held h (inl (come, same, start)) =
       let next = came_to v s w u x l r p set (copy_fits v s w l p r hl set) end_side old.block old.nodes old.arcs top held (stack_of v u.visits) h come in
       subst (λ (d : Draft). HasCopied v w x l r d.block d.nodes d.arcs (stack_of v x.visits)) (sym same)
       (subst (HasCopied v w x l r old.block old.nodes old.arcs) (sym (ap (stack_of v) come.6 ∙ stack_pushed v u.visits top come.2)) next)
-  turned u x top old new held h (inr (none, inl done)) =
-      let next = stayed v s w u x l r p set (copy_fits v s w l p r hl set) end_side old.block old.nodes old.arcs top held (stack_of v u.visits) h none done.kept done.marked new.nodes new.arcs done.nodes done.arcs in
-      subst (λ b. HasCopied v w x l r b new.nodes new.arcs (stack_of v x.visits)) (sym done.block) (subst (HasCopied v w x l r old.block new.nodes new.arcs) (sym (ap (stack_of v) done.marked.visits)) next)
-  turned u x top old new held h (inr (none, inr done)) =
-      let next = renewed v s w u x l r p set (copy_fits v s w l p r hl set) end_side old.block old.nodes old.arcs top held (stack_of v u.visits) h none done.changed done.features done.node done.marked new.nodes new.arcs done.nodes done.arcs in
-      subst (λ b. HasCopied v w x l r b new.nodes new.arcs (stack_of v x.visits)) (sym done.block)
-      (subst (HasCopied v w x l r (old.block ++ done.features ∷ []) new.nodes new.arcs) (sym (ap (stack_of v) done.marked.visits)) next)
+  turned u x top old new c held h (inr g) =
+      let m = g.0 in
+      let next = done_with u m top old new held h g.1 g.2 in
+      subst (HasCopied v w x l r new.block new.nodes new.arcs) (ap (stack_of v) (sym (ap (λ (z : Contents). z.visits) g.3))) (copied_moved v w m x l r new.block new.nodes new.arcs (stack_of v m.visits) m.visits x.pairs next g.3)
 
   -- all is copied
   pub finished : (t u : Contents) (root : Place) (block : List (List Feature)) (nodes arcs : ℕ) (q : Ref) → end_value v w (Node l) ≡ Node (key v root) → HasCopied v w t l r block nodes arcs (stack_of v t.visits) → u ≡ record t { visits = u.visits }
       → t.visits ≡ [] → IsEndRef v u (end_value v u (Node (key v root))) q → IsMade v l p r block q nodes arcs
   finished t u root block nodes arcs q from h e none is =
-      let has = copied_moved v w t u l r block nodes arcs [] u.visits (subst (HasCopied v w t l r block nodes arcs) (ap (stack_of v) none) h) e in
+      let has = copied_moved v w t u l r block nodes arcs [] u.visits t.pairs (subst (HasCopied v w t l r block nodes arcs) (ap (stack_of v) none) h) e in
       let final : IsFinal (forward_of v w) (Node (key v root)) = subst (IsFinal (forward_of v w)) from (set.ending (Node l)) in
       let same : end_value v u (Node (key v root)) ≡ end_value v w (Node l) = worked_end v w u has.still (Node (key v root)) ∙ (follow_final w.pair_room (forward_of v w) (Node (key v root)) final ∙ sym from) in
       made v s w u l p r hl set block nodes arcs has q (subst (λ x. IsEndRef v u x q) same is)
 
 -- what is held on the stack
-pub gone_held : (v : Shown) (u x : Contents) (top : Place) (old new : Draft) → IsHeld v top.block top.offset → VisitsHeld v u.visits → HasGoneOn v u x top old new → VisitsHeld v x.visits
-gone_held v u x top old new held h (inl (come, same)) = subst (VisitsHeld v) (sym come.6) (held_pushed v u.visits (top ∷ come.2 ∷ []) h (held, (come.4.0, tt)))
-gone_held v u x top old new held h (inr (none, inl done)) = subst (VisitsHeld v) (sym done.marked.visits) h
-gone_held v u x top old new held h (inr (none, inr done)) = subst (VisitsHeld v) (sym done.marked.visits) h
+pub gone_held : (v : Shown) (u x : Contents) (top : Place) (old new : Draft) (c : Cursor) → IsHeld v top.block top.offset → VisitsHeld v u.visits → HasGoneOn v u x top old new c → VisitsHeld v x.visits
+gone_held v u x top old new c held h (inl (come, same, start)) = subst (VisitsHeld v) (sym come.6) (held_pushed v u.visits (top ∷ come.2 ∷ []) h (held, (come.4.0, tt)))
+gone_held v u x top old new c held h (inr g) = subst (VisitsHeld v) (sym (gone_visits v u x top old new c g).1) h
+
+-- how far arcs were looked over
+pub gone_paused : (v : Shown) (u x : Contents) (top : Place) (old new : Draft) (c d : Cursor) → ArePaused v u visit.Entered (key v top ∷ stack_of v u.visits) c (cursors_of u.pairs) → HasGoneOn v u x top old new d
+    → ArePaused v x visit.Entered (stack_of v x.visits) d (cursors_of x.pairs)
+gone_paused v u x top old new c d h (inl (come, same, start)) =
+    let p = come.2 in
+    let on = onward_visited v visit.Entered u x (key v p) visit.Entered come.5 (λ q. refl) in
+    subst (λ ks. ArePaused v x visit.Entered ks d (cursors_of x.pairs)) (sym (ap (stack_of v) come.6 ∙ stack_pushed v u.visits top p))
+    (subst (λ e. ArePaused v x visit.Entered (key v p ∷ key v top ∷ stack_of v u.visits) e (cursors_of x.pairs)) (sym start)
+    (went_down v visit.Entered u x (key v p) (key v top) (stack_of v u.visits) come.7 on h.1 come.8 come.9))
+gone_paused v u x top old new c d h (inr g) =
+    let m = g.0 in
+    let kept = finish_keeps v u m top old new g.2 in
+    let on : IsOnward v visit.Entered u x = subst (IsOnward v visit.Entered u) (sym g.3) (record {
+      still = record { places = kept.0.places; pair_room = kept.0.pair_room; visit_room = kept.0.visit_room; forward = kept.0.forward; added = kept.0.added };
+      visit = λ k e. kept.1 k ∙ e;
+    }) in
+    subst (λ ks. ArePaused v x visit.Entered ks d (cursors_of x.pairs)) (sym (ap (stack_of v) (gone_visits v u x top old new d g).1))
+    (went_back v visit.Entered u x (stack_of v u.visits) d on h.1 (subst (λ qs. IsTakenFrom qs x.pairs d) kept.3 g.4))

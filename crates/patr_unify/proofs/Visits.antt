@@ -2,6 +2,7 @@
 use Rattle.std.proofs.Common.{◌≡◌, ℕ, ◌+◌, ◌<◌, ◌≤◌, List, [], ◌∷◌, ◌++◌, length, length-append, length-set, get_or-set_same, get_or-set_other, refl, sym, ap, ◌∙◌, subst, arith, append_assoc}
 use Rattle.patr_arena.specs.Shown.{Shown, IsShown, IsHeld, number_of}
 use Rattle.patr_scratch.specs.declared.Place.{Place}
+use Rattle.patr_scratch.specs.declared.Target.{Target}
 use Rattle.patr_scratch.specs.declared.Visit.{Visit}
 use Rattle.patr_scratch.specs.Contents.{PlaceMarks, Contents, unmarked, slot, marks, put}
 use Rattle.patr_unify.specs.Reading.{key, slot_of, marks_in, AreHeld}
@@ -22,7 +23,6 @@ visited v w t p number state s a h e g =
         places = length-set w.places (slot p.side number) m;
         arcs = refl;
         arc_room = refl;
-        pairs = refl;
         pair_room = refl;
         visit_room = refl;
         forward = field_put (λ (u : PlaceMarks). u.forward) w p.side number m has refl;
@@ -33,14 +33,13 @@ visited v w t p number state s a h e g =
       others = λ j ne. ap (λ (u : PlaceMarks). u.visit) (get_or-set_other w.places (slot p.side number) (slot_of n j) m unmarked (λ q. ne (slot_one n j (key v p) (q ∙ sym at))));
     })
 
--- the stack may change after it
-pub visited_then : (v : Shown) (w t u : Contents) (k : ℕ) (state : Visit) (ps : List Place) → IsVisited v w t k state → u ≡ record t { visits = ps } → IsVisited v w u k state
-visited_then v w t u k state ps h e = subst (λ z. IsVisited v w z k state) (sym e) (record {
+-- the stacks may change after it
+pub visited_then : (v : Shown) (w t u : Contents) (k : ℕ) (state : Visit) (ps : List Place) (qs : List (Target × Target)) → IsVisited v w t k state → u ≡ record t { visits = ps; pairs = qs } → IsVisited v w u k state
+visited_then v w t u k state ps qs h e = subst (λ z. IsVisited v w z k state) (sym e) (record {
   still = record {
     places = h.still.places;
     arcs = h.still.arcs;
     arc_room = h.still.arc_room;
-    pairs = h.still.pairs;
     pair_room = h.still.pair_room;
     visit_room = h.still.visit_room;
     forward = h.still.forward;
@@ -52,15 +51,14 @@ visited_then v w t u k state ps h e = subst (λ z. IsVisited v w z k state) (sym
 })
 
 -- and before it
-pub visited_after : (v : Shown) (w u t : Contents) (k : ℕ) (state : Visit) (ps : List Place) → u ≡ record w { visits = ps } → IsVisited v u t k state → IsVisited v w t k state
-visited_after v w u t k state ps e h' =
+pub visited_after : (v : Shown) (w u t : Contents) (k : ℕ) (state : Visit) (ps : List Place) (qs : List (Target × Target)) → u ≡ record w { visits = ps; pairs = qs } → IsVisited v u t k state → IsVisited v w t k state
+visited_after v w u t k state ps qs e h' =
     let h = subst (λ z. IsVisited v z t k state) e h' in
     record {
       still = record {
         places = h.still.places;
         arcs = h.still.arcs;
         arc_room = h.still.arc_room;
-        pairs = h.still.pairs;
         pair_room = h.still.pair_room;
         visit_room = h.still.visit_room;
         forward = h.still.forward;
@@ -71,13 +69,26 @@ visited_after v w u t k state ps e h' =
       others = h.others;
     }
 
--- two pushes
-pub pushed_twice : (old now new : List Place) (a b : Place) → now ≡ old ++ a ∷ [] → new ≡ now ++ b ∷ [] → new ≡ old ++ a ∷ b ∷ []
-pushed_twice old now new a b e f = f ∙ (ap (λ ps. ps ++ b ∷ []) e ∙ append_assoc old (a ∷ []) (b ∷ []))
+-- a pair is pushed, and then a place
+pub stacks_pushed : (w u x : Contents) (a : Place) → u ≡ record w { pairs = u.pairs } → x ≡ record u { visits = u.visits ++ a ∷ [] } → x ≡ record w { visits = u.visits ++ a ∷ []; pairs = u.pairs }
+stacks_pushed w u x a e f = f ∙ ap (λ (z : Contents). record z { visits = u.visits ++ a ∷ [] }) e
 
--- after one push there is room for another
-pub room_left : (w u : Contents) (p : Place) → length w.visits + 2 ≤ w.visit_room → u ≡ record w { visits = w.visits ++ p ∷ [] } → length u.visits < u.visit_room
-room_left w u p h e =
-    let size = ap (λ (z : Contents). length z.visits) e ∙ length-append w.visits (p ∷ []) in
+-- and another place
+pub pushed_twice : (w u x t : Contents) (a b : Place) → u ≡ record w { pairs = u.pairs } → x ≡ record u { visits = u.visits ++ a ∷ [] } → t.visits ≡ x.visits ++ b ∷ [] → t.visits ≡ w.visits ++ a ∷ b ∷ []
+pushed_twice w u x t a b e f g =
+    let first = ap (λ (z : Contents). z.visits) f ∙ ap (λ (z : Contents). z.visits ++ a ∷ []) e in
+    g ∙ (ap (λ ps. ps ++ b ∷ []) first ∙ append_assoc w.visits (a ∷ []) (b ∷ []))
+
+-- there is room for the one and for the other
+pub room_first : (w u : Contents) → length w.visits + 2 ≤ w.visit_room → u ≡ record w { pairs = u.pairs } → length u.visits < u.visit_room
+room_first w u h e =
+    let size = ap (λ (z : Contents). length z.visits) e in
     let room = ap (λ (z : Contents). z.visit_room) e in
     omega (arith, h, size, room)
+
+pub room_left : (w u x : Contents) (a : Place) → length w.visits + 2 ≤ w.visit_room → u ≡ record w { pairs = u.pairs } → x ≡ record u { visits = u.visits ++ a ∷ [] } → length x.visits < x.visit_room
+room_left w u x a h e f =
+    let first = ap (λ (z : Contents). length z.visits) e in
+    let size = ap (λ (z : Contents). length z.visits) f ∙ length-append u.visits (a ∷ []) in
+    let room = ap (λ (z : Contents). z.visit_room) f ∙ ap (λ (z : Contents). z.visit_room) e in
+    omega (arith, h, first, size, room)

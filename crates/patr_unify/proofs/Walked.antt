@@ -1,7 +1,6 @@
 -- The walk over the ends that the left side reaches, step by step.
-use Rattle.std.proofs.Common.{◌≡◌, ◌≢◌, ℕ, ◌+◌, ◌*◌, ◌<◌, ◌≤◌, ◌⊎◌, inl, inr, Option, Some, None, MatchOption, List, [], ◌∷◌, ◌++◌, length, length-append, map, reverse, refl, sym, ap, ◌∙◌, subst, arith}
+use Rattle.std.proofs.Common.{◌≡◌, ◌≢◌, ℕ, ◌+◌, ◌*◌, ◌<◌, ◌≤◌, ◌⊎◌, inl, inr, Option, Some, None, MatchOption, List, [], ◌∷◌, ◌++◌, length, length-append, refl, sym, ap, ◌∙◌, subst, arith}
 use Rattle.std.proofs.lemmas.Bool.{cases_eq}
-use Rattle.std.proofs.lemmas.List.{reverse-append, length-map, length-reverse}
 use Rattle.patr_model.specs.Structure.{Value, Atom, Node}
 use Rattle.patr_marks.specs.Machine.{Forward, Has, IsIn, arcs_at, ends, own, total}
 use Rattle.patr_marks.specs.Quotient.{Below}
@@ -21,9 +20,11 @@ use Rattle.patr_unify.specs.Reading.{option_at}
 use Rattle.patr_unify.specs.Reading as reading
 use Rattle.patr_unify.specs.Merging.{both}
 use Rattle.patr_unify.specs.Stepping.{HasLog, upto}
-use Rattle.patr_unify.specs.Walking.{AllEnd, HasEntered, HasLeft, HasStack, HasVisit, HasVisitRoom, HasWalked, IsAtPlace, IsLedBack, IsOther, IsStill, IsVisited, IsWalkable, IsWalkedOff, LeadsBack, VisitsHeld, end_value, stack_of, to_visit, unseen_of, visit_of}
+use Rattle.patr_unify.specs.declared.cursor.Cursor.{Cursor}
+use Rattle.patr_unify.specs.Walking.{AllEnd, ArePaused, HasEntered, HasLeft, HasStack, HasVisit, HasVisitRoom, HasWalked, IsAtPlace, IsLedBack, IsOther, IsStill, IsTurned, IsVisited, IsWalkable, IsWalkedOff, LeadsBack, VisitsHeld, cursors_of, end_value, first, stack_of, to_visit, unseen_of, visit_of}
 use Rattle.patr_unify.proofs.Running.{total_ext, upto_in, upto_once}
 use Rattle.patr_unify.proofs.Outcomes.{end_by_log, end_is, key_below, log_ends}
+use Rattle.patr_unify.proofs.Pauses.{none_paused, onward_visited, pairs_length, paused_popped, paused_starts, stack_length, stack_popped, stack_pushed, went_back, went_down}
 
 -- what stays where only visits change
 pub still_then : (w t u : Contents) → IsStill w t → IsStill t u → IsStill w u
@@ -31,7 +32,6 @@ still_then w t u h k = record {
   places = k.places ∙ h.places;
   arcs = k.arcs ∙ h.arcs;
   arc_room = k.arc_room ∙ h.arc_room;
-  pairs = k.pairs ∙ h.pairs;
   pair_room = k.pair_room ∙ h.pair_room;
   visit_room = k.visit_room ∙ h.visit_room;
   forward = λ j. k.forward j ∙ h.forward j;
@@ -44,7 +44,6 @@ still_same w = record {
   places = refl;
   arcs = refl;
   arc_room = refl;
-  pairs = refl;
   pair_room = refl;
   visit_room = refl;
   forward = λ j. refl;
@@ -77,16 +76,7 @@ still_end v w t l i h x = end_by_log v t i.log x (still_log v w t i.log h i.has_
 pub still_ends : (v : Shown) (w t : Contents) (l : ℕ) (i : IsWalkable v w l) → IsStill w t → AllEnd v t
 still_ends v w t l i h = log_ends v t i.log (still_log v w t i.log h i.has_log) (omega (arith, i.short, h.pair_room))
 
--- the stack
-pub stack_popped : (v : Shown) (ps : List Place) (p : Place) → stack_of v (ps ++ p ∷ []) ≡ key v p ∷ stack_of v ps
-stack_popped v ps p = ap (map (key v)) (reverse-append ps (p ∷ []))
-
-pub stack_pushed : (v : Shown) (ps : List Place) (a b : Place) → stack_of v (ps ++ a ∷ b ∷ []) ≡ key v b ∷ key v a ∷ stack_of v ps
-stack_pushed v ps a b = ap (map (key v)) (reverse-append ps (a ∷ b ∷ []))
-
-pub stack_length : (v : Shown) (ps : List Place) → length (stack_of v ps) ≡ length ps
-stack_length v ps = length-map (reverse ps) (key v) ∙ length-reverse ps
-
+-- what is held on the stack
 pub held_popped : (v : Shown) (ps : List Place) (p : Place) → VisitsHeld v (ps ++ p ∷ []) → VisitsHeld v ps × IsHeld v p.block p.offset
 held_popped v [] p h = (tt, h.0)
 held_popped v (q ∷ ps) p h = let r = held_popped v ps p h.1 in ((h.0, r.0), r.1)
@@ -101,7 +91,6 @@ stack_moved v w t u l i stack ps h e = subst (λ z. HasStack v w z l i stack) (s
     places = h.still.places;
     arcs = h.still.arcs;
     arc_room = h.still.arc_room;
-    pairs = h.still.pairs;
     pair_room = h.still.pair_room;
     visit_room = h.still.visit_room;
     forward = h.still.forward;
@@ -119,12 +108,13 @@ stack_moved v w t u l i stack ps h e = subst (λ z. HasStack v w z l i stack) (s
 })
 
 -- the top of the stack is taken
-pub at_place : (v : Shown) (w t u : Contents) (l : ℕ) (i : IsWalkable v w l) (top : Place) → HasWalked v w t l i → u ≡ record t { visits = u.visits } → t.visits ≡ u.visits ++ top ∷ [] → IsAtPlace v w u l i top
-at_place v w t u l i top h e q =
+pub at_place : (v : Shown) (w t u : Contents) (l : ℕ) (i : IsWalkable v w l) (top : Place) (c : Cursor) → HasWalked v w t l i c → u ≡ record t { visits = u.visits } → t.visits ≡ u.visits ++ top ∷ [] → IsAtPlace v w u l i top c
+at_place v w t u l i top c h e q =
     let held = held_popped v u.visits top (subst (VisitsHeld v) q h.held) in
     record {
       top_held = held.1;
       held = held.0;
+      paused = paused_popped v visit.Left t u top c h.paused e q;
       has = stack_moved v w t u l i (key v top ∷ stack_of v u.visits) u.visits (subst (HasStack v w t l i) (ap (stack_of v) q ∙ stack_popped v u.visits top) h.has) e;
     }
 
@@ -149,7 +139,7 @@ unseen_left visit.Unseen a b = cc
 unseen_left visit.Entered a b = cc
 unseen_left visit.Left a b = cc
 
-module _ (v : Shown) (w t : Contents) (l : ℕ) (i : IsWalkable v w l) (top : Place) (at : IsAtPlace v w t l i top) where
+module _ (v : Shown) (w t : Contents) (l : ℕ) (i : IsWalkable v w l) (top : Place) (c : Cursor) (at : IsAtPlace v w t l i top c) where
   leads_on : (a : ℕ) (x : Value) (j : ℕ) → Has (both v t (key v top)) a x → end_value v t x ≡ Node j → Leads (sides v.structure) (state_of v w i.log) (key v top) j
   leads_on a x j h e = (a, x, subst (λ es. Has es a x) (still_both v w t at.has.still (key v top)) h, sym (still_end v w t l i at.has.still x) ∙ e)
 
@@ -166,10 +156,11 @@ module _ (v : Shown) (w t : Contents) (l : ℕ) (i : IsWalkable v w l) (top : Pl
       let next = longer a x p h o n in
       let size = stack_room (key v p ∷ key v top ∷ stack_of v t.visits) i.ks next.once (λ k m. let r = next.reached k (inr m) in i.reached at.has.root r.0 k at.has.from r.1) in
       let stack = stack_length v t.visits in
-      omega (arith, size, stack, i.room, at.has.still.visit_room)
+      let pairs = pairs_length v t visit.Left (stack_of v t.visits) t.pairs at.paused.1 in
+      (omega (arith, size, stack, i.room, at.has.still.visit_room), omega (arith, size, pairs, i.pair_room, at.has.still.pair_room))
 
   -- the walk goes on to it
-  pub entered_on : (u : Contents) → HasEntered v t u top → HasWalked v w u l i
+  pub entered_on : (u : Contents) → HasEntered v t u top → HasWalked v w u l i first
   entered_on u e =
       let p = e.2 in
       let o = e.4 in
@@ -190,6 +181,9 @@ module _ (v : Shown) (w t : Contents) (l : ℕ) (i : IsWalkable v w l) (top : Pl
       record {
         held = subst (VisitsHeld v) (sym e.7) (held_pushed v t.visits (top ∷ p ∷ []) at.held (at.top_held, (o.0, tt)));
         has = subst (HasStack v w u l i) (sym (ap (stack_of v) e.7 ∙ stack_pushed v t.visits top p)) new;
+        paused = subst (λ ks. ArePaused v u visit.Left ks first (cursors_of u.pairs)) (sym (ap (stack_of v) e.7 ∙ stack_pushed v t.visits top p))
+            (went_down v visit.Left t u (key v p) (key v top) (stack_of v t.visits) e.8
+            (onward_visited v visit.Left t u (key v p) visit.Entered set (λ q. absurd (o.2 q))) at.paused.1 e.9 e.10);
       }
 
   below_of : (y : Value) → HasVisit v t visit.Left y → Below at.has.order y
@@ -197,8 +191,8 @@ module _ (v : Shown) (w t : Contents) (l : ℕ) (i : IsWalkable v w l) (top : Pl
   below_of (Node k) h = at.has.in_order k h
 
   -- the walk goes back
-  pub left_on : (u : Contents) → HasLeft v t u (key v top) → HasWalked v w u l i
-  left_on u e =
+  pub left_on : (u : Contents) (d : Cursor) → HasLeft v t u (key v top) d → HasWalked v w u l i d
+  left_on u d e =
       let set = e.0 in
       let K = key v top in
       let s = state_of v w i.log in
@@ -221,11 +215,18 @@ module _ (v : Shown) (w t : Contents) (l : ℕ) (i : IsWalkable v w l) (top : Pl
       record {
         held = subst (VisitsHeld v) (sym e.1) at.held;
         has = subst (HasStack v w u l i) (sym (ap (stack_of v) e.1)) new;
+        paused = subst (λ ks. ArePaused v u visit.Left ks d (cursors_of u.pairs)) (sym (ap (stack_of v) e.1))
+            (went_back v visit.Left t u (stack_of v t.visits) d (onward_visited v visit.Left t u K visit.Left set (λ q. refl)) at.paused.1 e.3);
       }
 
   -- the walk is led back
   pub led_back : LeadsBack v t (key v top) → IsLedBack v w l i
   led_back b = (at.has.root, key v top, stack_of v t.visits, at.has.order, b.2, at.has.from, at.has.walk, leads_on b.0 b.1 b.2 b.3 b.4, at.has.on_stack b.2 b.5)
+
+-- it was not gone on
+pub not_turned : (v : Shown) (w t : Contents) (top : Place) (o : Option Cursor) → IsTurned v w t top o → ((c : Cursor) → o ≡ Some c → ⊥) → LeadsBack v w (key v top)
+not_turned v w t top None h n = h
+not_turned v w t top (Some c) h n = absurd (n c refl)
 
 -- the end of the left side
 pub root_is : (v : Shown) (w : Contents) (l : ℕ) (i : IsWalkable v w l) (from t : Target) → value_at v from ≡ Node l → IsEndOf v w from t → (ends i.log (Node l) ≡ value_at v t) × (ends i.log (value_at v t) ≡ value_at v t)
@@ -243,8 +244,8 @@ root_room v w l i root e =
 
 -- where the walk begins
 pub walked_starts : (v : Shown) (w t : Contents) (l : ℕ) (i : IsWalkable v w l) (root : Place) → IsHeld v root.block root.offset → ends i.log (Node l) ≡ Node (key v root) → ends i.log (Node (key v root)) ≡ Node (key v root)
-    → IsVisited v w t (key v root) visit.Entered → t.visits ≡ w.visits ++ root ∷ [] → HasWalked v w t l i
-walked_starts v w t l i root held from is_end set e =
+    → IsVisited v w t (key v root) visit.Entered → t.visits ≡ w.visits ++ root ∷ [] → t.pairs ≡ w.pairs → HasWalked v w t l i first
+walked_starts v w t l i root held from is_end set e pairs =
     let K = key v root in
     let only : t.visits ≡ root ∷ [] = e ∙ ap (λ ps. ps ++ root ∷ []) i.empty in
     let new : HasStack v w t l i (K ∷ []) = record {
@@ -261,6 +262,7 @@ walked_starts v w t l i root held from is_end set e =
     record {
       held = subst (VisitsHeld v) (sym only) (held, tt);
       has = subst (HasStack v w t l i) (sym (ap (stack_of v) only)) new;
+      paused = paused_starts v visit.Left t root only (pairs ∙ i.no_pairs);
     }
 
 -- where the left side's end is an atom, there is nothing to walk over
@@ -268,6 +270,7 @@ pub atom_walked : (v : Shown) (w : Contents) (l : ℕ) (i : IsWalkable v w l) (c
 atom_walked v w l i c e = record {
   still = still_same w;
   empty = i.empty;
+  no_pairs = i.no_pairs;
   order = [];
   ordered = tt;
   below = subst (Below []) (sym e) tt;
@@ -287,14 +290,15 @@ none_popped t u None m n = m
 none_popped t u (Some p) m n = absurd (n p refl)
 
 -- and else it ends when the stack is empty
-pub walked_off : (v : Shown) (w t u : Contents) (l : ℕ) (i : IsWalkable v w l) → HasWalked v w t l i → u ≡ record t { visits = u.visits } → t.visits ≡ [] → u.visits ≡ [] → IsWalkedOff v w u l i
-walked_off v w t u l i h e none empty =
+pub walked_off : (v : Shown) (w t u : Contents) (l : ℕ) (i : IsWalkable v w l) (c : Cursor) → HasWalked v w t l i c → u ≡ record t { visits = u.visits } → t.visits ≡ [] → u.visits ≡ [] → IsWalkedOff v w u l i
+walked_off v w t u l i c h e none empty =
     let has = stack_moved v w t u l i [] u.visits (subst (HasStack v w t l i) (ap (stack_of v) none) h.has) e in
     let s = state_of v w i.log in
     let done : (n k : ℕ) → ReachedIn (sides v.structure) s has.root n k → IsIn has.order k = walk_done (sides v.structure) s has.root has.order has.walk in
     record {
       still = has.still;
       empty = empty;
+      no_pairs = ap (λ (z : Contents). z.pairs) e ∙ none_paused t.pairs (subst (λ ks. ArePaused v t visit.Left ks c (cursors_of t.pairs)) (ap (stack_of v) none) h.paused);
       order = has.order;
       ordered = has.walk.ordered;
       below = subst (Below has.order) (sym has.from) (done 0 has.root refl);
@@ -310,8 +314,8 @@ walked_off v w t u l i h e none empty =
 
 -- with each turn less is left to visit
 pub turn_falls : (v : Shown) → IsShown v → (t u x : Contents) (top : Place) → IsHeld v top.block top.offset → visit_of v u (key v top) ≡ visit.Entered → u ≡ record t { visits = u.visits } → t.visits ≡ u.visits ++ top ∷ []
-    → HasLeft v u x (key v top) ⊎ HasEntered v u x top → total (unseen_of v x) (upto (2 * length v.structure)) + length x.visits < total (unseen_of v t) (upto (2 * length v.structure)) + length t.visits
-turn_falls v s t u x top held now e q (inl a) =
+    → (c : Cursor) → HasLeft v u x (key v top) c ⊎ (HasEntered v u x top × (c ≡ first)) → total (unseen_of v x) (upto (2 * length v.structure)) + length x.visits < total (unseen_of v t) (upto (2 * length v.structure)) + length t.visits
+turn_falls v s t u x top held now e q c (inl a) =
     let all = upto (2 * length v.structure) in
     let same : total (unseen_of v u) all ≡ total (unseen_of v t) all = ap (λ z. total (unseen_of v z) all) e in
     let left : total (unseen_of v x) all ≡ total (unseen_of v u) all = total_ext (unseen_of v x) (unseen_of v u) all (λ k. elim (cases_eq k (key v top)) [
@@ -321,7 +325,8 @@ turn_falls v s t u x top held now e q (inl a) =
     let size = ap (length {A = Place}) q ∙ length-append u.visits (top ∷ []) in
     let kept = ap (length {A = Place}) a.1 in
     omega (arith, same, left, size, kept)
-turn_falls v s t u x top held now e q (inr a) =
+turn_falls v s t u x top held now e q c (inr b) =
+    let a = b.0 in
     let p = a.2 in
     let all = upto (2 * length v.structure) in
     let same : total (unseen_of v u) all ≡ total (unseen_of v t) all = ap (λ z. total (unseen_of v z) all) e in

@@ -26,7 +26,8 @@ use Rattle.patr_unify.specs.Reading.{added_of, forward_of, key, marks_in, marks_
 use Rattle.patr_unify.specs.Merging.{both}
 use Rattle.patr_unify.specs.declared.draft.Draft.{Draft}
 use Rattle.patr_scratch.specs.declared.Place.{Place}
-use Rattle.patr_unify.specs.Walking.{IsFoundAt, IsOther, IsVisited, end_value, visit_of}
+use Rattle.patr_unify.specs.declared.cursor.Cursor.{Cursor}
+use Rattle.patr_unify.specs.Walking.{IsFoundAt, IsOther, IsPaused, IsPutOn, IsTakenFrom, IsVisited, end_value, first, visit_of}
 
 -- the right side's node at a place may stay there: the left side's node there has neither a forward nor a visit
 abbrev pub stays_free : Option Value → Visit → Bool
@@ -172,14 +173,19 @@ HasFinished v w t top old new = HasStayed v w t top old new ⊎ HasNewNode v w t
 -- an end of the place's arcs that was not entered was entered
 abbrev pub HasComeTo : Shown → Contents → Contents → Place → Type 0
 HasComeTo v w t top = (a : ℕ) × (x : Value) × (p : Place) × Has (both v w (key v top)) a x × IsOther v w visit.Entered x p × IsVisited v w t (key v p) visit.Entered × (t.visits ≡ w.visits ++ top ∷ p ∷ [])
+    × (from : Cursor) × IsPaused v w visit.Entered (key v top) from × IsPutOn w.pairs t.pairs from
 
--- where an arc of the place leads to an end that was not entered, the stack has room for both
+-- where an arc of the place leads to an end that was not entered, the stacks have room for both
 abbrev pub HasRoomToEnter : Shown → Contents → ℕ → Type 0
-HasRoomToEnter v w k = (a : ℕ) (x : Value) (p : Place) → Has (both v w k) a x → IsOther v w visit.Entered x p → length w.visits + 2 ≤ w.visit_room
+HasRoomToEnter v w k = (a : ℕ) (x : Value) (p : Place) → Has (both v w k) a x → IsOther v w visit.Entered x p → (length w.visits + 2 ≤ w.visit_room) × (length w.pairs < w.pair_room)
+
+-- an end all of whose arcs lead to copied ends was copied, and the place below is taken up
+abbrev pub HasGoneBack : Shown → Contents → Contents → Place → Draft → Draft → Cursor → Type 0
+HasGoneBack v w t top old new c = (u : Contents) × IsFoundAt v w visit.Entered (both v w (key v top)) None × HasFinished v w u top old new × (t ≡ record u { pairs = t.pairs }) × IsTakenFrom u.pairs t.pairs c
 
 -- the copy has gone on from the top of the stack
-abbrev pub HasGoneOn : Shown → Contents → Contents → Place → Draft → Draft → Type 0
-HasGoneOn v w t top old new = (HasComeTo v w t top × (new ≡ old)) ⊎ (IsFoundAt v w visit.Entered (both v w (key v top)) None × HasFinished v w t top old new)
+abbrev pub HasGoneOn : Shown → Contents → Contents → Place → Draft → Draft → Cursor → Type 0
+HasGoneOn v w t top old new c = (HasComeTo v w t top × (new ≡ old) × (c ≡ first)) ⊎ HasGoneBack v w t top old new c
 
 -- the new nodes
 abbrev pub new_nodes : Shown → List (List Feature) → Structure

@@ -67,10 +67,11 @@ abbrev pub BoundOrNot : Shown → Contents → Contents → Place → ℕ → Bo
 BoundOrNot v w t p c true = (both v w (key v p) ≡ []) × (t ≡ bound v w p c)
 BoundOrNot v w t p c false = ((a : ℕ) × (x : Value) × Has (both v w (key v p)) a x) × (t ≡ w)
 
--- a list of all side nodes
+-- a list of all side nodes: beside the two roots it has no more than these nodes have arcs
 pub record Covers (v : Shown) (l : ℕ) (r : Value) (ks : List ℕ) : Type 0 where
   pub once : NoRepeats ks
   pub all : (k : ℕ) → IsSide v.structure l r k → IsIn ks k
+  pub few : length ks ≤ total (λ k. length (own (sides v.structure) k)) ks + 2
 
 -- while pairs are worked off: the marks, and room for all that can come
 pub record IsRunning (v : Shown) (w : Contents) (l : ℕ) (r : Value) (target : Value) (ks : List ℕ) : Type 0 where

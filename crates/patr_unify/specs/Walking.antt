@@ -2,24 +2,32 @@
 --     end_value v w x     what following the forwards from a value leads to
 --     visit_of v w k      what was set as the visit of the place k
 --     IsFoundAt           the first end of arcs whose visit is not the one that is passed over
+--     rest_at v w k c     the arcs of the place k from the cursor c on
+--     IsPaused            all arcs before the cursor lead to ends that are passed over
+--     ArePaused           so it is for each place of the stack
 --     IsWalkable          where the walk begins
 --     IsAtPlace           the walk has taken the top of its stack
 --     HasWalked           what the walk has entered and left
 --     IsWalked            what it comes to
-use Rattle.std.specs.Prelude.{◌≡◌, ◌≢◌, ◌≤◌, ◌+◌, ◌⊎◌, ℕ, Bool, true, false, Option, Some, None, List, [], ◌∷◌, ◌++◌, length, map, reverse}
+use Rattle.std.specs.Prelude.{◌≡◌, ◌≢◌, ◌≤◌, ◌+◌, ◌⊎◌, ℕ, Bool, true, false, Option, Some, None, List, [], ◌∷◌, ◌++◌, length, map, reverse, drop, ◌<◌, ◌^◌}
 use Rattle.patr_model.specs.Structure.{Value, Atom, Node, Arcs}
-use Rattle.patr_marks.specs.Machine.{Forward, Has, IsIn, ends}
+use Rattle.patr_marks.specs.Machine.{Forward, Has, IsIn, ends, own}
 use Rattle.patr_marks.specs.Quotient.{Below, IsOrder}
 use Rattle.patr_marks.specs.Settled.{follow, IsFinal}
 use Rattle.patr_marks.specs.Sides.{sides}
 use Rattle.patr_marks.specs.Walk.{IsWalk, Leads, ReachedIn}
 use Rattle.patr_arena.specs.Shown.{Shown, IsHeld}
 use Rattle.patr_scratch.specs.declared.Place.{Place}
+use Rattle.patr_scratch.specs.declared.Target.{Target}
+use Rattle.patr_scratch.specs.declared.Target.TheVariants as target
 use Rattle.patr_scratch.specs.declared.Visit.{Visit}
 use Rattle.patr_scratch.specs.declared.Visit.TheVariants as visit
-use Rattle.patr_scratch.specs.Contents.{Contents}
+use Rattle.patr_scratch.specs.Contents.{Contents, HasCell, after}
+use Rattle.patr_unify.specs.declared.cursor.Cursor.{Cursor}
+use Rattle.patr_unify.specs.declared.cursor.Cursor.TheVariants as cursor
+use Rattle.patr_unify.specs.declared.walk.Found.{Found}
 use Rattle.patr_unify.specs.Merging.{both}
-use Rattle.patr_unify.specs.Reading.{AreHeld, forward_of, key, marks_in, marks_of, state_of}
+use Rattle.patr_unify.specs.Reading.{AreHeld, added_of, arcs_at, forward_of, key, marks_in, marks_of, state_of}
 use Rattle.patr_unify.specs.Stepping.{HasLog}
 
 -- what following the forwards from a value leads to
@@ -53,12 +61,86 @@ abbrev pub IsFoundAt : Shown → Contents → Visit → Arcs → Option Place �
 IsFoundAt v w passed es None = (a : ℕ) (x : Value) → Has es a x → HasVisit v w passed (end_value v w x)
 IsFoundAt v w passed es (Some p) = (a : ℕ) × (x : Value) × Has es a x × IsOther v w passed x p
 
--- all but the visits is as it was
+-- a place's first arc
+abbrev pub first : Cursor
+first = cursor.Own 0
+
+-- the arcs of a place from the cursor on
+abbrev pub rest_at : Shown → Contents → ℕ → Cursor → Arcs
+rest_at v w k (cursor.Own i) = drop i (own (sides v.structure) k) ++ added_of v w k
+rest_at v w k (cursor.Added c) = arcs_at v (after (marks_of v w k).added (Some c))
+
+-- the cursor's cell is one of the place's
+abbrev pub HasArcAt : Shown → Contents → ℕ → Cursor → Type 0
+HasArcAt v w k (cursor.Own i) = Unit {0}
+HasArcAt v w k (cursor.Added c) = HasCell (marks_of v w k).added c
+
+-- each of the arcs is one of the rest, or leads to an end that is passed over
+abbrev pub IsPassed : Shown → Contents → Visit → Arcs → Arcs → Type 0
+IsPassed v w passed es rest = (a : ℕ) (x : Value) → Has es a x → Has rest a x ⊎ HasVisit v w passed (end_value v w x)
+
+-- each arc of the place before the cursor leads to an end that is passed over
+pub record IsPaused (v : Shown) (w : Contents) (passed : Visit) (k : ℕ) (c : Cursor) : Type 0 where
+  pub there : HasArcAt v w k c
+  pub before : IsPassed v w passed (both v w k) (rest_at v w k c)
+
+-- the end of one of the place's arcs that is such a place and where the arc is, or there is none
+abbrev pub IsFoundNext : Shown → Contents → Visit → ℕ → Option Found → Type 0
+IsFoundNext v w passed k None = IsFoundAt v w passed (both v w k) None
+IsFoundNext v w passed k (Some f) = IsFoundAt v w passed (both v w k) (Some f.place) × IsPaused v w passed k f.from
+
+-- the same, but for the added arcs
+abbrev pub IsFoundFirst : Shown → Contents → Visit → ℕ → Option Found → Type 0
+IsFoundFirst v w passed k None = IsPassed v w passed (both v w k) (added_of v w k)
+IsFoundFirst v w passed k (Some f) = IsFoundNext v w passed k (Some f)
+
+-- the cursor that a pair stands for
+abbrev pub cursor_from : Target → Target → Cursor
+cursor_from (target.Atom i) t = cursor.Own i
+cursor_from (target.Place p) (target.Atom c) = cursor.Added c
+cursor_from (target.Place p) (target.Place q) = cursor.Own 0
+
+abbrev pub cursor_of : Target × Target → Cursor
+cursor_of p = cursor_from p.0 p.1
+
+-- the cursors that the stack of pairs stands for, the top first
+abbrev pub cursors_of : List (Target × Target) → List Cursor
+cursors_of qs = map cursor_of (reverse qs)
+
+-- the number of the cursor's arc or cell
+abbrev pub number_in : Cursor → ℕ
+number_in (cursor.Own i) = i
+number_in (cursor.Added c) = c
+
+-- the pair stands for the cursor or, only where its number has more than 32 bits, for the first arc
+abbrev pub StandsFor : Target × Target → Cursor → Type 0
+StandsFor q c = (cursor_of q ≡ c) ⊎ ((cursor_of q ≡ first) × (2 ^ 32 ≤ number_in c))
+
+-- one more pair, which stands for the cursor
+abbrev pub IsPutOn : List (Target × Target) → List (Target × Target) → Cursor → Type 0
+IsPutOn old new c = (q : Target × Target) × (new ≡ old ++ q ∷ []) × StandsFor q c
+
+-- one pair less, which stands for the cursor, or there was none
+abbrev pub IsTakenFrom : List (Target × Target) → List (Target × Target) → Cursor → Type 0
+IsTakenFrom old new c = ((old ≡ []) × (new ≡ [])) ⊎ ((q : Target × Target) × (old ≡ new ++ q ∷ []) × (c ≡ cursor_of q))
+
+-- each place has its cursor
+abbrev pub AreBelow : Shown → Contents → Visit → List ℕ → List Cursor → Type 0
+AreBelow v w passed [] [] = Unit {0}
+AreBelow v w passed [] (c ∷ cs) = ⊥
+AreBelow v w passed (k ∷ ks) [] = ⊥
+AreBelow v w passed (k ∷ ks) (c ∷ cs) = IsPaused v w passed k c × AreBelow v w passed ks cs
+
+-- the top of the stack has the first cursor, and the places below it have the others
+abbrev pub ArePaused : Shown → Contents → Visit → List ℕ → Cursor → List Cursor → Type 0
+ArePaused v w passed [] c cs = cs ≡ []
+ArePaused v w passed (k ∷ ks) c cs = IsPaused v w passed k c × AreBelow v w passed ks cs
+
+-- all but the visits and the pairs is as it was
 pub record IsStill (w : Contents) (t : Contents) : Type 0 where
   pub places : length t.places ≡ length w.places
   pub arcs : t.arcs ≡ w.arcs
   pub arc_room : t.arc_room ≡ w.arc_room
-  pub pairs : t.pairs ≡ w.pairs
   pub pair_room : t.pair_room ≡ w.pair_room
   pub visit_room : t.visit_room ≡ w.visit_room
   pub forward : (j : ℕ) → (marks_in t j).forward ≡ (marks_in w j).forward
@@ -80,29 +162,29 @@ abbrev pub VisitsHeld : Shown → List Place → Type 0
 VisitsHeld v [] = Unit {0}
 VisitsHeld v (p ∷ ps) = IsHeld v p.block p.offset × VisitsHeld v ps
 
--- where an arc of the place leads to an end that was not visited, the stack has room for both
+-- where an arc of the place leads to an end that was not visited, the stacks have room for both
 abbrev pub HasVisitRoom : Shown → Contents → ℕ → Type 0
-HasVisitRoom v w k = (a : ℕ) (x : Value) (p : Place) → Has (both v w k) a x → IsOther v w visit.Left x p → visit_of v w (key v p) ≢ visit.Entered → length w.visits + 2 ≤ w.visit_room
+HasVisitRoom v w k = (a : ℕ) (x : Value) (p : Place) → Has (both v w k) a x → IsOther v w visit.Left x p → visit_of v w (key v p) ≢ visit.Entered → (length w.visits + 2 ≤ w.visit_room) × (length w.pairs < w.pair_room)
 
--- the walk has left the place, all of whose arcs lead to ends that it has left
-abbrev pub HasLeft : Shown → Contents → Contents → ℕ → Type 0
-HasLeft v w t k = IsVisited v w t k visit.Left × (t.visits ≡ w.visits) × IsFoundAt v w visit.Left (both v w k) None
+-- the walk has left the place, all of whose arcs lead to ends that it has left, and takes up the place below
+abbrev pub HasLeft : Shown → Contents → Contents → ℕ → Cursor → Type 0
+HasLeft v w t k c = IsVisited v w t k visit.Left × (t.visits ≡ w.visits) × IsFoundAt v w visit.Left (both v w k) None × IsTakenFrom w.pairs t.pairs c
 
 -- the walk has entered an end of the place's arcs that was not visited
 abbrev pub HasEntered : Shown → Contents → Contents → Place → Type 0
 HasEntered v w t top = (a : ℕ) × (x : Value) × (p : Place) × Has (both v w (key v top)) a x × IsOther v w visit.Left x p × (visit_of v w (key v p) ≢ visit.Entered)
-    × IsVisited v w t (key v p) visit.Entered × (t.visits ≡ w.visits ++ top ∷ p ∷ [])
+    × IsVisited v w t (key v p) visit.Entered × (t.visits ≡ w.visits ++ top ∷ p ∷ []) × (from : Cursor) × IsPaused v w visit.Left (key v top) from × IsPutOn w.pairs t.pairs from
 
 -- an arc of the place leads back to an end that the walk has entered
 abbrev pub LeadsBack : Shown → Contents → ℕ → Type 0
 LeadsBack v w k = (a : ℕ) × (x : Value) × (j : ℕ) × Has (both v w k) a x × (end_value v w x ≡ Node j) × (visit_of v w j ≡ visit.Entered)
 
 -- the walk has gone on from the top of its stack, or is led back
-abbrev pub IsTurned : Shown → Contents → Contents → Place → Bool → Type 0
-IsTurned v w t top true = HasLeft v w t (key v top) ⊎ HasEntered v w t top
-IsTurned v w t top false = LeadsBack v w (key v top)
+abbrev pub IsTurned : Shown → Contents → Contents → Place → Option Cursor → Type 0
+IsTurned v w t top (Some c) = HasLeft v w t (key v top) c ⊎ (HasEntered v w t top × (c ≡ first))
+IsTurned v w t top None = LeadsBack v w (key v top)
 
--- nothing is visited, and the stack has room for all ends that the left side reaches
+-- nothing is visited, and the stacks have room for all ends that the left side reaches
 pub record IsWalkable (v : Shown) (w : Contents) (l : ℕ) : Type 0 where
   pub held : AreHeld v w
   pub log : List Forward
@@ -110,8 +192,10 @@ pub record IsWalkable (v : Shown) (w : Contents) (l : ℕ) : Type 0 where
   pub short : length log ≤ w.pair_room
   pub unseen : (k : ℕ) → visit_of v w k ≡ visit.Unseen
   pub empty : w.visits ≡ []
+  pub no_pairs : w.pairs ≡ []
   pub ks : List ℕ
   pub room : length ks ≤ w.visit_room
+  pub pair_room : length ks ≤ w.pair_room + 1
   pub reached : (root n k : ℕ) → ends log (Node l) ≡ Node root → ReachedIn (sides v.structure) (state_of v w log) root n k → IsIn ks k
 
 -- the walk with this stack: the visits say what it has entered and left
@@ -127,20 +211,23 @@ pub record HasStack (v : Shown) (w : Contents) (t : Contents) (l : ℕ) (i : IsW
   pub in_order : (k : ℕ) → visit_of v t k ≡ visit.Left → IsIn order k
 
 -- the walk at the head of its loop
-pub record HasWalked (v : Shown) (w : Contents) (t : Contents) (l : ℕ) (i : IsWalkable v w l) : Type 0 where
+pub record HasWalked (v : Shown) (w : Contents) (t : Contents) (l : ℕ) (i : IsWalkable v w l) (c : Cursor) : Type 0 where
   pub held : VisitsHeld v t.visits
   pub has : HasStack v w t l i (stack_of v t.visits)
+  pub paused : ArePaused v t visit.Left (stack_of v t.visits) c (cursors_of t.pairs)
 
 -- the walk has taken the top of its stack
-pub record IsAtPlace (v : Shown) (w : Contents) (t : Contents) (l : ℕ) (i : IsWalkable v w l) (top : Place) : Type 0 where
+pub record IsAtPlace (v : Shown) (w : Contents) (t : Contents) (l : ℕ) (i : IsWalkable v w l) (top : Place) (c : Cursor) : Type 0 where
   pub top_held : IsHeld v top.block top.offset
   pub held : VisitsHeld v t.visits
   pub has : HasStack v w t l i (key v top ∷ stack_of v t.visits)
+  pub paused : ArePaused v t visit.Left (key v top ∷ stack_of v t.visits) c (cursors_of t.pairs)
 
 -- the walk is done: the ends that it has left are those that are reached, in an order in which arcs lead back
 pub record IsWalkedOff (v : Shown) (w : Contents) (t : Contents) (l : ℕ) (i : IsWalkable v w l) : Type 0 where
   pub still : IsStill w t
   pub empty : t.visits ≡ []
+  pub no_pairs : t.pairs ≡ []
   pub order : List ℕ
   pub ordered : IsOrder (sides v.structure) (state_of v w i.log) order
   pub below : Below order (ends i.log (Node l))

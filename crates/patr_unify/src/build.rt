@@ -5,13 +5,15 @@ ghost use Rattle.patr_arena.specs.Shown.{IsHeld, number_of};
 ghost use Rattle.patr_unify.specs.Copying.{CopiesFit, HasFinished, HasGoneOn, HasRoomToEnter, IsCopyMarked, IsMade, copied_of};
 ghost use Rattle.patr_unify.specs.Deciding.{IsSettledFor};
 ghost use Rattle.patr_unify.specs.Reading.{AreHeld, key};
-ghost use Rattle.patr_unify.specs.Walking.{AllEnd, end_value};
+ghost use Rattle.patr_unify.specs.Walking.{AllEnd, IsPaused, end_value};
+ghost use Rattle.patr_scratch.specs.declared.Visit.TheVariants as visit;
 
+use crate::cursor::{Cursor, FIRST, take_up};
 use crate::draft::Draft;
 use crate::ends::{address, end_of, number};
 use crate::gather::gather;
 use crate::keep::{end_ref, may_stay};
-use crate::walk::{enter, left_target, next_end};
+use crate::walk::{enter, go_down, left_target, next_end};
 use patr_arena::{Addr, Block, Id, Memory, Nodes, Ref};
 use patr_scratch::{Copied, Place, Scratch, Target, Visit};
 use std::alloc::{AllocError, Global};
@@ -70,33 +72,39 @@ fn finish<N: Nodes>(
     Ok(())
 }
 
-/// Goes on from the place that was the top of the stack: to an end of its arcs that was not entered, or, where there is
-/// none, to its copy.
+/// Goes on from the place that was the top of the stack, whose arcs were looked over as far as `from`: to an end of its
+/// arcs that was not entered, or, where there is none, to its copy. Answers how far the arcs of the new top were looked
+/// over.
 fn go_on<N: Nodes>(
     alloc: Global,
     nodes: &N,
     top: Place,
+    from: Cursor,
     scratch: &mut Scratch,
     draft: &mut Draft,
-) -> Result<(), Memory>
+) -> Result<Cursor, Memory>
     requires top { IsHeld (N.shown nodes.now) top.block top.offset }
     requires held { AreHeld (N.shown nodes.now) scratch.old }
     requires ending { AllEnd (N.shown nodes.now) scratch.old }
     requires copies { CopiesFit (N.shown nodes.now) (length draft.old.block) scratch.old }
     requires room { HasRoomToEnter (N.shown nodes.now) scratch.old (key (N.shown nodes.now) top) }
-    ensures { IfOk result (λ _. HasGoneOn (N.shown nodes.now) scratch.old scratch.new top draft.old draft.new) }
+    requires paused { IsPaused (N.shown nodes.now) scratch.old visit.Entered (key (N.shown nodes.now) top) from }
+    ensures { IfOk result (λ next. HasGoneOn (N.shown nodes.now) scratch.old scratch.new top draft.old draft.new next) }
 {
-    match next_end(nodes, scratch, top, Visit::Entered) {
-        Some(place) => {
-            scratch.push_visit(top);
-            enter(nodes, place, scratch);
-            Ok(())
+    match next_end(nodes, scratch, top, Visit::Entered, from) {
+        Some(found) => {
+            go_down(nodes, top, found, scratch);
+            Ok(FIRST)
         }
-        None => finish(alloc, nodes, top, scratch, draft),
+        None => {
+            finish(alloc, nodes, top, scratch, draft)?;
+            Ok(take_up(scratch))
+        }
     }
 }
 
-/// Copies all ends that arcs of ends lead to from the root, depth first.
+/// Copies all ends that arcs of ends lead to from the root, depth first. To find the next end, each arc is looked over at
+/// most twice.
 fn copy_from<N: Nodes>(
     alloc: Global,
     nodes: &N,
@@ -113,8 +121,9 @@ fn copy_from<N: Nodes>(
         arcs: 0,
     };
     enter(nodes, root, scratch);
+    let mut from = FIRST;
     while let Some(top) = scratch.pop_visit() {
-        go_on(alloc, nodes, top, scratch, &mut draft)?;
+        from = go_on(alloc, nodes, top, from, scratch, &mut draft)?;
     }
     let made = end_ref(nodes, scratch, Target::Place(root));
     Ok(Made {

@@ -13,6 +13,7 @@
 
 mod build;
 mod count;
+mod cursor;
 mod draft;
 mod ends;
 mod gather;

@@ -1,8 +1,10 @@
 use Rattle.std.proofs.Common.{◌∙◌, ◌∷◌, ◌++◌, [], sym, ap, subst}
+use Rattle.patr_scratch.specs.declared.Visit.TheVariants as visit
 use Rattle.patr_unify.specs.Walking.{VisitsHeld, stack_of}
 use Rattle.patr_unify.proofs.Worked.{HasCopied, worked_ends, worked_held}
 use Rattle.patr_unify.proofs.CopyLoop.{copied_moved, going_falls}
-use Rattle.patr_unify.proofs.Turning.{at_top, finished, first_room, gone_held, starts, top_room, turned}
+use Rattle.patr_unify.proofs.Pauses.{paused_popped, paused_starts}
+use Rattle.patr_unify.proofs.Turning.{at_top, finished, first_room, gone_held, gone_paused, starts, top_room, turned}
 use Rattle.patr_unify.proofs.Walked.{held_popped, none_popped}
 use Rattle.patr_unify.proofs.build.copy_from.Goals as goal
 
@@ -24,6 +26,7 @@ loop-top-init g c =
     let only = c.enter.ensures.pushed ∙ ap (λ ps. ps ++ c.args.root ∷ []) q.4.no_visits in
     record {
       held = subst (VisitsHeld v) (sym only) (c.requires.root, tt);
+      paused = paused_starts v visit.Entered t c.args.root only (c.enter.ensures.pairs ∙ q.4.no_pairs);
       copied = λ l p r hl set from. subst (λ b. HasCopied v w t l r b 0 0 (stack_of v t.visits)) (sym c.new.ensures) (starts v s w l p r hl set t c.args.root from c.enter.ensures.visited c.enter.ensures.pushed);
     }
 
@@ -88,7 +91,13 @@ go_on-requires-clause-room g c =
     let d = c.loop-top.draft in
     let popped = held_popped v u.visits c.in-Some.top (subst (VisitsHeld v) c.in-Some.ensures.last c.loop-top.invariant.held) in
     let has = at_top v s w q.0 q.1 q.2 q.3 q.4 t u c.in-Some.top d.block d.nodes d.arcs (c.loop-top.invariant.copied q.0 q.1 q.2 q.3 q.4 q.5) c.in-Some.ensures.rest c.in-Some.ensures.last in
-    top_room v s w q.0 q.1 q.2 q.3 q.4 u c.in-Some.top d.block d.nodes d.arcs popped.1 has
+    top_room v s w q.0 q.1 q.2 q.3 q.4 u c.in-Some.top c.loop-top.from d.block d.nodes d.arcs popped.1 has
+    (paused_popped v visit.Entered t u c.in-Some.top c.loop-top.from c.loop-top.invariant.paused c.in-Some.ensures.rest c.in-Some.ensures.last)
+
+pub go_on-requires-clause-paused : goal.go_on-requires-clause-paused
+go_on-requires-clause-paused g c =
+    let v = g.N.Nodes.shown c.args.nodes.now in
+    (paused_popped v visit.Entered c.loop-top.scratch c.pop_visit.new.self c.in-Some.top c.loop-top.from c.loop-top.invariant.paused c.in-Some.ensures.rest c.in-Some.ensures.last).0
 
 pub loop-top-smaller : goal.loop-top-smaller
 loop-top-smaller g c =
@@ -99,7 +108,7 @@ loop-top-smaller g c =
     let u = c.pop_visit.new.self in
     let d = c.loop-top.draft in
     let popped = held_popped v u.visits c.in-Some.top (subst (VisitsHeld v) c.in-Some.ensures.last c.loop-top.invariant.held) in
-    going_falls v s t u c.go_on.new.scratch c.in-Some.top d c.go_on.new.draft c.in-Some.ensures.rest c.in-Some.ensures.last c.in_ok-go_on.ensures
+    going_falls v s t u c.go_on.new.scratch c.in-Some.top d c.go_on.new.draft c.in_ok-from.from c.in-Some.ensures.rest c.in-Some.ensures.last c.in_ok-from.ensures
 
 pub loop-top-preserved : goal.loop-top-preserved
 loop-top-preserved g c =
@@ -111,9 +120,11 @@ loop-top-preserved g c =
     let d = c.loop-top.draft in
     let popped = held_popped v u.visits c.in-Some.top (subst (VisitsHeld v) c.in-Some.ensures.last c.loop-top.invariant.held) in
     record {
-      held = gone_held v u c.go_on.new.scratch c.in-Some.top d c.go_on.new.draft popped.1 popped.0 c.in_ok-go_on.ensures;
-      copied = λ l p r hl set from. turned v s w l p r hl set u c.go_on.new.scratch c.in-Some.top d c.go_on.new.draft popped.1
-          (at_top v s w l p r hl set t u c.in-Some.top d.block d.nodes d.arcs (c.loop-top.invariant.copied l p r hl set from) c.in-Some.ensures.rest c.in-Some.ensures.last) c.in_ok-go_on.ensures;
+      paused = gone_paused v u c.go_on.new.scratch c.in-Some.top d c.go_on.new.draft c.loop-top.from c.in_ok-from.from
+          (paused_popped v visit.Entered t u c.in-Some.top c.loop-top.from c.loop-top.invariant.paused c.in-Some.ensures.rest c.in-Some.ensures.last) c.in_ok-from.ensures;
+      held = gone_held v u c.go_on.new.scratch c.in-Some.top d c.go_on.new.draft c.in_ok-from.from popped.1 popped.0 c.in_ok-from.ensures;
+      copied = λ l p r hl set from. turned v s w l p r hl set u c.go_on.new.scratch c.in-Some.top d c.go_on.new.draft c.in_ok-from.from popped.1
+          (at_top v s w l p r hl set t u c.in-Some.top d.block d.nodes d.arcs (c.loop-top.invariant.copied l p r hl set from) c.in-Some.ensures.rest c.in-Some.ensures.last) c.in_ok-from.ensures;
     }
 
 pub end_ref-made-requires-clause-held : goal.end_ref-made-requires-clause-held
@@ -125,7 +136,7 @@ end_ref-made-requires-clause-held g c =
     let t = c.loop-top.scratch in
     let u = c.pop_visit.new.self in
     let d = c.loop-top.draft in
-    let has = copied_moved v w t u q.0 q.2 d.block d.nodes d.arcs (stack_of v t.visits) u.visits (c.loop-top.invariant.copied q.0 q.1 q.2 q.3 q.4 q.5) c.pop_visit.ensures.rest in
+    let has = copied_moved v w t u q.0 q.2 d.block d.nodes d.arcs (stack_of v t.visits) u.visits t.pairs (c.loop-top.invariant.copied q.0 q.1 q.2 q.3 q.4 q.5) c.pop_visit.ensures.rest in
     worked_held v w u has.still q.4.held
 
 pub end_ref-made-requires-clause-ending : goal.end_ref-made-requires-clause-ending
@@ -137,7 +148,7 @@ end_ref-made-requires-clause-ending g c =
     let t = c.loop-top.scratch in
     let u = c.pop_visit.new.self in
     let d = c.loop-top.draft in
-    let has = copied_moved v w t u q.0 q.2 d.block d.nodes d.arcs (stack_of v t.visits) u.visits (c.loop-top.invariant.copied q.0 q.1 q.2 q.3 q.4 q.5) c.pop_visit.ensures.rest in
+    let has = copied_moved v w t u q.0 q.2 d.block d.nodes d.arcs (stack_of v t.visits) u.visits t.pairs (c.loop-top.invariant.copied q.0 q.1 q.2 q.3 q.4 q.5) c.pop_visit.ensures.rest in
     worked_ends v w u has.still q.4.ending
 
 pub returns : goal.returns

@@ -4,7 +4,8 @@ use Rattle.patr_marks.specs.Machine.{total}
 use Rattle.patr_unify.specs.Deciding.{IsSettledFor}
 use Rattle.patr_unify.specs.Reading.{key}
 use Rattle.patr_unify.specs.Stepping.{upto}
-use Rattle.patr_unify.specs.Walking.{VisitsHeld, end_value, stack_of}
+use Rattle.patr_scratch.specs.declared.Visit.TheVariants as visit
+use Rattle.patr_unify.specs.Walking.{ArePaused, VisitsHeld, cursors_of, end_value, stack_of}
 use Rattle.patr_unify.proofs.Worked.{HasCopied}
 use Rattle.patr_unify.proofs.CopyLoop.{unentered_of}
 use Rattle.patr_unify.proofs.build.copy_from.Given as goal
@@ -15,6 +16,7 @@ invariant-loop-top g q =
     let w = q.fn.scratch in
     record {
       held : VisitsHeld v q.scratch.visits;
+      paused : ArePaused v q.scratch visit.Entered (stack_of v q.scratch.visits) q.from (cursors_of q.scratch.pairs);
       copied : (l : ℕ) (p : List ℕ) (r : Value) → l < length v.structure → IsSettledFor v w l p r → end_value v w (Node l) ≡ Node (key v q.root)
           → HasCopied v w q.scratch l r q.draft.block q.draft.nodes q.draft.arcs (stack_of v q.scratch.visits);
     }

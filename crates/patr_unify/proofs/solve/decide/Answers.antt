@@ -59,7 +59,7 @@ walk-requires-clause-start g c =
     let starts = decision_starts v s w l hl p x c.args.right c.in-Some.ensures.held c.requires.right there room c.push_pair.new.self pushed in
     let ks = both_lists (length v.structure) room.left.list room.right.list in
     let done = c.settle_all.ensures.done c.if-not-settle_all.false l r (value_of v x) ks starts.0 starts.1 in
-    walkable v s c.settle_all.new.scratch l r (value_of v x) ks starts.0 done.0
+    walkable v s c.settle_all.new.scratch l r (value_of v x) ks starts.0 done.0 done.1
 
 pub returns-then-not-walk-clause-none : goal.returns-then-not-walk-clause-none
 returns-then-not-walk-clause-none g c e =
@@ -78,9 +78,9 @@ returns-then-not-walk-clause-none g c e =
     let ks = both_lists (length v.structure) room.left.list room.right.list in
     let done = c.settle_all.ensures.done c.if-not-settle_all.false l r (value_of v x) ks starts.0 starts.1 in
     let u = c.settle_all.new.scratch in
-    let start = walkable v s u l r (value_of v x) ks starts.0 done.0 in
+    let start = walkable v s u l r (value_of v x) ks starts.0 done.0 done.1 in
     let back = subst (λ (b : Bool). IsWalked v u c.walk.new.scratch l start b) c.if-not-walk.true (c.walk.ensures start) in
-    circle_refutes v s u l r (value_of v x) ks starts.0 done.0 hl (value_below v s x c.in-Some.ensures.held) p there back
+    circle_refutes v s u l r (value_of v x) ks starts.0 done.0 done.1 hl (value_below v s x c.in-Some.ensures.held) p there back
 
 pub returns-clause-solvable : goal.returns-clause-solvable
 returns-clause-solvable g c e =
@@ -100,6 +100,6 @@ returns-clause-solvable g c e =
     let done = c.settle_all.ensures.done c.if-not-settle_all.false l r (value_of v x) ks starts.0 starts.1 in
     let u = c.settle_all.new.scratch in
     let t = c.walk.new.scratch in
-    let start = walkable v s u l r (value_of v x) ks starts.0 done.0 in
+    let start = walkable v s u l r (value_of v x) ks starts.0 done.0 done.1 in
     let off = subst (λ (b : Bool). IsWalked v u t l start b) c.if-not-walk.false (c.walk.ensures start) in
     settled_for v s u t l r (value_of v x) ks starts.0 done.0 hl (value_below v s x c.in-Some.ensures.held) p there done.1 off (value_below v s c.args.right c.requires.right) (room_stays v s w u t l r hl room done.0.rooms off.still)

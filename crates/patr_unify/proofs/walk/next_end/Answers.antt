@@ -1,13 +1,20 @@
+use Rattle.std.proofs.Common.{◌∙◌, sym, ap, subst}
+use Rattle.patr_scratch.specs.Contents.{first_cell, marks}
+use Rattle.patr_unify.specs.Merging.{both}
 use Rattle.patr_unify.specs.Reading.{key}
-use Rattle.patr_unify.proofs.Walks.{found_own, found_added}
+use Rattle.patr_unify.specs.Walking.{IsPassed}
+use Rattle.patr_unify.proofs.Walks.{first_link}
 use Rattle.patr_unify.proofs.walk.next_end.Goals as goal
 
-pub returns-in-Some : goal.returns-in-Some
-returns-in-Some g c =
+pub other_added_end-requires-clause-start : goal.other_added_end-requires-clause-start
+other_added_end-requires-clause-start g c =
     let v = g.N.Nodes.shown c.args.nodes.now in
-    found_own v c.args.scratch.now c.args.passed (key v c.args.place) c.in-Some.found c.in-Some.ensures
+    let w = c.args.scratch.now in
+    (first_link v w (g.met.N.Nodes.lawful c.args.nodes.now) c.requires.held c.args.place c.requires.place c.first_arc-first.result (c.first_arc-first.ensures ∙ ap (λ n. first_cell (marks w c.args.place.side n).added) c.number.ensures)).0
 
-pub returns-in-None : goal.returns-in-None
-returns-in-None g c =
+pub other_added_end-requires-clause-before : goal.other_added_end-requires-clause-before
+other_added_end-requires-clause-before g c =
     let v = g.N.Nodes.shown c.args.nodes.now in
-    found_added v c.args.scratch.now c.args.passed (key v c.args.place) c.other_added_end.result c.in-None.ensures c.other_added_end.ensures
+    let w = c.args.scratch.now in
+    let first = first_link v w (g.met.N.Nodes.lawful c.args.nodes.now) c.requires.held c.args.place c.requires.place c.first_arc-first.result (c.first_arc-first.ensures ∙ ap (λ n. first_cell (marks w c.args.place.side n).added) c.number.ensures) in
+    subst (IsPassed v w c.args.passed (both v w (key v c.args.place))) (sym first.1) c.in-None.ensures

@@ -1,12 +1,13 @@
-use Rattle.std.proofs.Common.{drop}
+use Rattle.std.proofs.Common.{◌++◌, drop}
 use Rattle.patr_marks.specs.Machine.{own}
 use Rattle.patr_marks.specs.Sides.{sides}
-use Rattle.patr_unify.specs.Reading.{key}
-use Rattle.patr_unify.proofs.Walks.{IsPassed}
+use Rattle.patr_unify.specs.Merging.{both}
+use Rattle.patr_unify.specs.Reading.{added_of, key}
+use Rattle.patr_unify.specs.Walking.{IsPassed}
 use Rattle.patr_unify.proofs.walk.other_own_end.Given as goal
 
-abbrev pub invariant-loop-feature : goal.invariant-loop-feature
-invariant-loop-feature g l =
+abbrev pub invariant-loop-index : goal.invariant-loop-index
+invariant-loop-index g l =
     let v = g.N.Nodes.shown l.nodes in
-    let own_arcs = own (sides v.structure) (key v l.place) in
-    IsPassed v l.scratch l.passed own_arcs (drop l.feature-index own_arcs)
+    let k = key v l.place in
+    IsPassed v l.scratch l.passed (both v l.scratch k) (drop l.index (own (sides v.structure) k) ++ added_of v l.scratch k)

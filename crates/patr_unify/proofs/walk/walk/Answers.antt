@@ -1,10 +1,10 @@
-use Rattle.std.proofs.Common.{Bool, inl, inr, refl, ap, subst}
+use Rattle.std.proofs.Common.{inl, inr, refl, sym, ap, subst}
 use Rattle.patr_arena.specs.Shown.{number_of}
 use Rattle.patr_scratch.specs.declared.Target.TheVariants as target
 use Rattle.patr_unify.specs.Reading.{key, value_at}
-use Rattle.patr_unify.specs.Walking.{IsTurned}
+use Rattle.patr_unify.specs.Walking.{HasWalked}
 use Rattle.patr_unify.proofs.Outcomes.{log_ends}
-use Rattle.patr_unify.proofs.Walked.{at_place, atom_walked, entered_on, has_room, led_back, left_on, none_popped, root_is, root_room, still_ends, still_held, turn_falls, walked_off, walked_starts}
+use Rattle.patr_unify.proofs.Walked.{at_place, atom_walked, entered_on, has_room, led_back, left_on, none_popped, not_turned, root_is, root_room, still_ends, still_held, turn_falls, walked_off, walked_starts}
 use Rattle.patr_unify.proofs.walk.walk.Goals as goal
 
 pub end_of-requires-clause-ending : goal.end_of-requires-clause-ending
@@ -33,7 +33,7 @@ loop-top-init g c i =
     let w = c.args.scratch.now in
     let l = number_of v c.args.left.block c.args.left.offset in
     let root = root_is v w l i c.left_target.result (target.Place c.in-Place.root) (ap (value_at v) c.left_target.ensures) c.in-Place.ensures in
-    walked_starts v w c.enter.new.scratch l i c.in-Place.root c.in-Place.ensures.held root.0 root.1 c.enter.ensures.visited c.enter.ensures.pushed
+    walked_starts v w c.enter.new.scratch l i c.in-Place.root c.in-Place.ensures.held root.0 root.1 c.enter.ensures.visited c.enter.ensures.pushed c.enter.ensures.pairs
 
 pub go_on-requires-clause-top : goal.go_on-requires-clause-top
 go_on-requires-clause-top g c =
@@ -41,7 +41,7 @@ go_on-requires-clause-top g c =
     let w = c.args.scratch.now in
     let l = number_of v c.args.left.block c.args.left.offset in
     let i = c.requires.start in
-    (at_place v w c.loop-top.scratch c.pop_visit.new.self l i c.in-Some.top (c.loop-top.invariant i) c.in-Some.ensures.rest c.in-Some.ensures.last).top_held
+    (at_place v w c.loop-top.scratch c.pop_visit.new.self l i c.in-Some.top c.loop-top.from (c.loop-top.invariant i) c.in-Some.ensures.rest c.in-Some.ensures.last).top_held
 
 pub go_on-requires-clause-held : goal.go_on-requires-clause-held
 go_on-requires-clause-held g c =
@@ -49,7 +49,7 @@ go_on-requires-clause-held g c =
     let w = c.args.scratch.now in
     let l = number_of v c.args.left.block c.args.left.offset in
     let i = c.requires.start in
-    let at = at_place v w c.loop-top.scratch c.pop_visit.new.self l i c.in-Some.top (c.loop-top.invariant i) c.in-Some.ensures.rest c.in-Some.ensures.last in
+    let at = at_place v w c.loop-top.scratch c.pop_visit.new.self l i c.in-Some.top c.loop-top.from (c.loop-top.invariant i) c.in-Some.ensures.rest c.in-Some.ensures.last in
     still_held v w c.pop_visit.new.self at.has.still i.held
 
 pub go_on-requires-clause-ending : goal.go_on-requires-clause-ending
@@ -58,7 +58,7 @@ go_on-requires-clause-ending g c =
     let w = c.args.scratch.now in
     let l = number_of v c.args.left.block c.args.left.offset in
     let i = c.requires.start in
-    let at = at_place v w c.loop-top.scratch c.pop_visit.new.self l i c.in-Some.top (c.loop-top.invariant i) c.in-Some.ensures.rest c.in-Some.ensures.last in
+    let at = at_place v w c.loop-top.scratch c.pop_visit.new.self l i c.in-Some.top c.loop-top.from (c.loop-top.invariant i) c.in-Some.ensures.rest c.in-Some.ensures.last in
     still_ends v w c.pop_visit.new.self l i at.has.still
 
 pub go_on-requires-clause-room : goal.go_on-requires-clause-room
@@ -67,17 +67,26 @@ go_on-requires-clause-room g c =
     let w = c.args.scratch.now in
     let l = number_of v c.args.left.block c.args.left.offset in
     let i = c.requires.start in
-    let at = at_place v w c.loop-top.scratch c.pop_visit.new.self l i c.in-Some.top (c.loop-top.invariant i) c.in-Some.ensures.rest c.in-Some.ensures.last in
-    has_room v w c.pop_visit.new.self l i c.in-Some.top at
+    let at = at_place v w c.loop-top.scratch c.pop_visit.new.self l i c.in-Some.top c.loop-top.from (c.loop-top.invariant i) c.in-Some.ensures.rest c.in-Some.ensures.last in
+    has_room v w c.pop_visit.new.self l i c.in-Some.top c.loop-top.from at
 
-pub returns-then-not-go_on : goal.returns-then-not-go_on
-returns-then-not-go_on g c i =
+pub go_on-requires-clause-paused : goal.go_on-requires-clause-paused
+go_on-requires-clause-paused g c =
+    let v = g.N.Nodes.shown c.args.nodes.now in
+    let w = c.args.scratch.now in
+    let l = number_of v c.args.left.block c.args.left.offset in
+    let i = c.requires.start in
+    let at = at_place v w c.loop-top.scratch c.pop_visit.new.self l i c.in-Some.top c.loop-top.from (c.loop-top.invariant i) c.in-Some.ensures.rest c.in-Some.ensures.last in
+    at.paused.0
+
+pub returns-in_default-go_on : goal.returns-in_default-go_on
+returns-in_default-go_on g c i =
     let v = g.N.Nodes.shown c.args.nodes.now in
     let w = c.args.scratch.now in
     let t = c.pop_visit.new.self in
     let l = number_of v c.args.left.block c.args.left.offset in
-    let at = at_place v w c.loop-top.scratch t l i c.in-Some.top (c.loop-top.invariant i) c.in-Some.ensures.rest c.in-Some.ensures.last in
-    led_back v w t l i c.in-Some.top at (subst (λ (b : Bool). IsTurned v t c.go_on.new.scratch c.in-Some.top b) c.if-not-go_on.true c.go_on.ensures)
+    let at = at_place v w c.loop-top.scratch t l i c.in-Some.top c.loop-top.from (c.loop-top.invariant i) c.in-Some.ensures.rest c.in-Some.ensures.last in
+    led_back v w t l i c.in-Some.top c.loop-top.from at (not_turned v t c.go_on.new.scratch c.in-Some.top c.go_on.result c.go_on.ensures c.in_default-go_on.not-Some)
 
 pub loop-top-smaller : goal.loop-top-smaller
 loop-top-smaller g c =
@@ -86,9 +95,9 @@ loop-top-smaller g c =
     let t = c.pop_visit.new.self in
     let l = number_of v c.args.left.block c.args.left.offset in
     let i = c.requires.start in
-    let at = at_place v w c.loop-top.scratch t l i c.in-Some.top (c.loop-top.invariant i) c.in-Some.ensures.rest c.in-Some.ensures.last in
+    let at = at_place v w c.loop-top.scratch t l i c.in-Some.top c.loop-top.from (c.loop-top.invariant i) c.in-Some.ensures.rest c.in-Some.ensures.last in
     turn_falls v (g.met.N.Nodes.lawful c.args.nodes.now) c.loop-top.scratch t c.go_on.new.scratch c.in-Some.top at.top_held (at.has.entered (key v c.in-Some.top) (inl refl)) c.in-Some.ensures.rest c.in-Some.ensures.last
-    (subst (λ (b : Bool). IsTurned v t c.go_on.new.scratch c.in-Some.top b) c.if-not-go_on.false c.go_on.ensures)
+    c.in-Some-go_on.next c.in-Some-go_on.ensures
 
 pub loop-top-preserved : goal.loop-top-preserved
 loop-top-preserved g c i =
@@ -96,11 +105,10 @@ loop-top-preserved g c i =
     let w = c.args.scratch.now in
     let t = c.pop_visit.new.self in
     let l = number_of v c.args.left.block c.args.left.offset in
-    let at = at_place v w c.loop-top.scratch t l i c.in-Some.top (c.loop-top.invariant i) c.in-Some.ensures.rest c.in-Some.ensures.last in
-    let turned = subst (λ (b : Bool). IsTurned v t c.go_on.new.scratch c.in-Some.top b) c.if-not-go_on.false c.go_on.ensures in
-    elim turned [
-      | inl left ↦ left_on v w t l i c.in-Some.top at c.go_on.new.scratch left
-      | inr entered ↦ entered_on v w t l i c.in-Some.top at c.go_on.new.scratch entered
+    let at = at_place v w c.loop-top.scratch t l i c.in-Some.top c.loop-top.from (c.loop-top.invariant i) c.in-Some.ensures.rest c.in-Some.ensures.last in
+    elim c.in-Some-go_on.ensures [
+      | inl left ↦ left_on v w t l i c.in-Some.top c.loop-top.from at c.go_on.new.scratch c.in-Some-go_on.next left
+      | inr entered ↦ subst (HasWalked v w c.go_on.new.scratch l i) (sym entered.1) (entered_on v w t l i c.in-Some.top c.loop-top.from at c.go_on.new.scratch entered.0)
     ]
 
 pub returns : goal.returns
@@ -109,4 +117,4 @@ returns g c i =
     let w = c.args.scratch.now in
     let l = number_of v c.args.left.block c.args.left.offset in
     let none = none_popped c.loop-top.scratch c.pop_visit.new.self c.pop_visit.result c.pop_visit.ensures.last c.in_default-pop_visit.not-Some in
-    walked_off v w c.loop-top.scratch c.pop_visit.new.self l i (c.loop-top.invariant i) c.pop_visit.ensures.rest none.0 none.1
+    walked_off v w c.loop-top.scratch c.pop_visit.new.self l i c.loop-top.from (c.loop-top.invariant i) c.pop_visit.ensures.rest none.0 none.1

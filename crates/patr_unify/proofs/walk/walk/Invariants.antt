@@ -9,7 +9,7 @@ abbrev pub invariant-loop-top : goal.invariant-loop-top
 invariant-loop-top g l =
     let v = g.N.Nodes.shown l.nodes in
     let at = number_of v l.fn.left.block l.fn.left.offset in
-    (start : IsWalkable v l.fn.scratch at) → HasWalked v l.fn.scratch l.scratch at start
+    (start : IsWalkable v l.fn.scratch at) → HasWalked v l.fn.scratch l.scratch at start l.from
 
 abbrev pub decreases-loop-top : goal.decreases-loop-top
 decreases-loop-top g l =

@@ -1,0 +1,4 @@
+use Rattle.patr_unify.proofs.tests.generations_begin_anew.Given as goal
+
+abbrev pub ghosts-are_so : goal.ghosts-are_so
+ghosts-are_so g a = record { name = a.blank.name; parts = a.blank.parts }
