@@ -4,3 +4,11 @@ pub mod Orders
 pub mod Walks
 pub mod Numbering
 pub mod Spelled
+pub mod Fronts
+pub mod ItemFronts
+pub mod Reading
+pub mod Turns
+pub mod Moved
+pub mod Fitting
+pub mod SameNodes
+pub mod ReadBacks

@@ -13,3 +13,7 @@ if_ok_always (Err e) P h = tt
 pub on_ok_weaker : {T E : Type 0} (r : Result T E) (P Q : Type 0) → (P → Q) → OnOk r P → OnOk r Q
 on_ok_weaker (Ok x) P Q f h = f h
 on_ok_weaker (Err e) P Q f h = tt
+
+pub if_ok_both : {T E : Type 0} (r : Result T E) (P Q R : Type 0) → (P → Q → R) → IfOk r (λ _. P) → IfOk r (λ _. Q) → IfOk r (λ _. R)
+if_ok_both (Ok x) P Q R f p q = f p q
+if_ok_both (Err e) P Q R f p q = tt

@@ -54,7 +54,7 @@ node_below : (n : ℕ) (fs : List Feature) → NodeIsBelow n fs → AllByRecursi
 node_below n [] h = tt
 node_below n (f ∷ fs) h = ((h.0.0, refs_below n f.to h.0.1), node_below n fs h.1)
 
-nodes_below : (n : ℕ) (nodes : List (List Feature)) → NodesAreBelow n nodes → (k : ℕ) → AllByRecursion (λ e. (e.attribute < n) × OfValue (λ c. c < n) e.to) (arcs_of (map (arcs_from nothing 0) nodes) (Node k))
+pub nodes_below : (n : ℕ) (nodes : List (List Feature)) → NodesAreBelow n nodes → (k : ℕ) → AllByRecursion (λ e. (e.attribute < n) × OfValue (λ c. c < n) e.to) (arcs_of (map (arcs_from nothing 0) nodes) (Node k))
 nodes_below n [] h k = tt
 nodes_below n (fs ∷ nodes) h zero = node_below n fs h.0
 nodes_below n (fs ∷ nodes) h (suc k) = nodes_below n nodes h.1 k

@@ -2,3 +2,9 @@ pub mod Orders
 pub mod Walks
 pub mod Numbers
 pub mod Nodes
+pub mod Fronts
+pub mod Items
+pub mod Readers
+pub mod Built
+pub mod Made
+pub mod ReadBack

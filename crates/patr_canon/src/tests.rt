@@ -6,10 +6,11 @@ ghost use Rattle.patr_arena.specs.Blocks.{AllBelow, attributes, nothing, with_bl
 ghost use Rattle.patr_arena.specs.Sentences.{sentence_of};
 ghost use Rattle.patr_arena.specs.declared.value.Ref.TheVariants as ref;
 ghost use Rattle.patr_canon.specs.Nodes.{NodeIsBelow, NodesAreBelow};
+ghost use Rattle.patr_canon.specs.ReadBack.{IsOwn};
 ghost use Rattle.patr_canon.specs.Walks.{AreSpelled};
 
 use super::*;
-use patr_arena::{Addr, Block, Feature, PlainArena, Ref, SentenceArena, Value, View};
+use patr_arena::{Addr, Block, Feature, Nodes, PlainArena, Ref, SentenceArena, Value, View};
 use patr_text::Symbols;
 use std::alloc::{AllocError, Global};
 use std::test::Fail;
@@ -205,5 +206,90 @@ fn a_value_over_a_base_has_a_text(rt: HostRuntime) -> Result<(), Fail> {
         canonical(alloc, &symbols, &[], &view, value)?.as_str(),
         "[b: [a: x]]"
     );
+    Ok(())
+}
+
+/// The block that a text is read back as, with its root; `None` where the text is that of no structure.
+fn read_back(
+    alloc: Global,
+    symbols: &mut Symbols,
+    text: &str,
+) -> Result<Option<(Block, Ref)>, Memory>
+    ensures { IfOk result (IsOwn (length symbols.new)) }
+{
+    if symbols.len() >= 1000 || text.len() >= 1000 {
+        return Err(AllocError);
+    }
+    match read_canonical(alloc, symbols, &[], text) {
+        Ok(read) => Ok(Some(read)),
+        Err(Fault::Refused(NotCanonical)) => Ok(None),
+        Err(Fault::Memory) => Err(AllocError),
+    }
+}
+
+/// How many nodes a text is read back as, and the text that these have.
+fn printed_again(
+    alloc: Global,
+    symbols: &mut Symbols,
+    text: &str,
+) -> Result<Option<(u32, String)>, Memory> {
+    let Some((block, root)) = read_back(alloc, symbols, text)? else {
+        return Ok(None);
+    };
+    let nodes = block.len();
+    let mut arena = PlainArena::new(alloc);
+    let Ok(_) = arena.push(block) else {
+        return Err(AllocError);
+    };
+    let value = arena.resolve(0, root);
+    let again = canonical(alloc, symbols, &[], &arena, value)?;
+    Ok(Some((nodes, again)))
+}
+
+#[test]
+fn texts_are_read_back(rt: HostRuntime) -> Result<(), Fail> {
+    let alloc = rt.alloc();
+    let mut symbols = symbols(alloc)?;
+    for (text, nodes) in [
+        ("[a: #1 [b: x] c: #1]", 2),
+        ("new", 0),
+        ("[]", 1),
+        ("[a: #1 [a: #2 [b: x] c: #2] c: #1]", 3),
+        ("[b: \"two words\" c: \"say \\\"hi\\\"\"]", 1),
+    ] {
+        let Some((count, again)) = printed_again(alloc, &mut symbols, text)? else {
+            return Err(Fail::new("a text is refused"));
+        };
+        assert_eq!(rt; count, nodes, "at {text}");
+        assert_eq!(rt; again.as_str(), text);
+    }
+    Ok(())
+}
+
+#[test]
+fn other_texts_are_refused(rt: HostRuntime) -> Result<(), Fail> {
+    let alloc = rt.alloc();
+    let mut symbols = symbols(alloc)?;
+    for text in [
+        "[c: #1 [b: x] a: #1]",
+        "[a: #1 x]",
+        "[a: #1 [b: x]]",
+        "[a:x]",
+        "",
+        "[a: x a: x]",
+        "[a: #1 b: #1 []]",
+        "#1 [a: #1]",
+        "[a: #01 [] b: #01]",
+        "[a: #4294967297 [] b: #4294967297]",
+        "\"x\"",
+        "x ",
+        "[a: x",
+        "[a: x]]",
+    ] {
+        assert!(rt;
+            read_back(alloc, &mut symbols, text)?.is_none(),
+            "at {text}"
+        );
+    }
     Ok(())
 }

@@ -1,0 +1,219 @@
+//! A canonical text, one thing after another.
+ghost use Rattle.std.specs.Prelude.{◌≡◌, ◌≤◌, ◌<◌, ◌+◌, ◌-◌, ◌^◌, length, slice_get, IfOk, MatchOption, Some, [], ◌∷◌, option_copied, None};
+ghost use Rattle.patr_text.specs.Texts.{Extends};
+ghost use Rattle.patr_model.specs.Items.{AValue, AFirst, ANext};
+ghost use Rattle.patr_model.specs.Reading.{skip};
+ghost use Rattle.patr_canon.specs.Items.{IsArcFront, IsBareFront, IsFurther, IsItem, IsNumbered, IsQuotedFront, IsSpelledItem, IsSymbolFront, expect_behind, expected_seen};
+ghost use Rattle.patr_canon.specs.Walks.{event_seen};
+
+use crate::event::Event;
+use crate::front::{bare_front, behind, behind_both, number_front, unquote};
+use patr_text::{Id, Memory, Symbols};
+use std::alloc::Global;
+
+/// What a text goes on with: a value; a node's first attribute or its bracket; what follows a value.
+#[derive(Clone, Copy, Debug, PartialEq, Eq)]
+pub(crate) enum Expected {
+    Value,
+    First,
+    Next,
+}
+
+impl Event {
+    /// What a text goes on with behind this.
+    pub(crate) fn expected_behind(self) -> Expected
+        ensures { expected_seen result ≡ expect_behind (event_seen self) }
+    {
+        match self {
+            Event::Atom(_) | Event::Again(_) | Event::Close => Expected::Next,
+            Event::Open(_) => Expected::First,
+            Event::Arc { .. } => Expected::Value,
+        }
+    }
+}
+
+/// The number of a text, which the table has from then on.
+fn number_of(symbols: &mut Symbols, text: &str) -> Result<Id, Memory>
+    requires { length symbols.old < 2 ^ 32 - 1 }
+    ensures table { Extends symbols.old symbols.new }
+    ensures limit { length symbols.new ≤ length symbols.old + 1 }
+    ensures number { IfOk result (λ id. slice_get symbols.new id.0 ≡ Some text.now) }
+{
+    symbols.intern(text)
+}
+
+/// The symbol up to the closing quote, and what is behind it.
+fn quoted_symbol<'a>(
+    alloc: Global,
+    symbols: &mut Symbols,
+    text: &'a str,
+) -> Result<Option<(Id, &'a str)>, Memory>
+    requires room { length symbols.old + length text.now < 2 ^ 32 - 1 }
+    ensures table { Extends symbols.old symbols.new }
+    ensures limit { length symbols.new ≤ length symbols.old + length text.now }
+    ensures front { IfOk result (IsQuotedFront symbols.new text.now) }
+    ensures further { IfOk result (IsFurther (length symbols.old) (length symbols.new) text.now) }
+{
+    let mut symbol = String::new(alloc);
+    let Some(rest) = unquote(text, &mut symbol)? else {
+        return Ok(None);
+    };
+    let number = number_of(symbols, symbol.as_str())?;
+    Ok(Some((number, rest)))
+}
+
+/// The symbol without quotes, and what is behind it; `None` where it has no bytes.
+fn bare_symbol<'a>(symbols: &mut Symbols, text: &'a str) -> Result<Option<(Id, &'a str)>, Memory>
+    requires room { length symbols.old + length text.now < 2 ^ 32 - 1 }
+    ensures table { Extends symbols.old symbols.new }
+    ensures limit { length symbols.new ≤ length symbols.old + length text.now }
+    ensures front { IfOk result (IsBareFront symbols.new text.now) }
+    ensures further { IfOk result (IsFurther (length symbols.old) (length symbols.new) text.now) }
+{
+    let (symbol, rest) = bare_front(text);
+    if symbol.is_empty() {
+        return Ok(None);
+    }
+    let number = number_of(symbols, symbol)?;
+    Ok(Some((number, rest)))
+}
+
+/// The atom or attribute at the front, and what is behind it.
+fn symbol_front<'a>(
+    alloc: Global,
+    symbols: &mut Symbols,
+    text: &'a str,
+) -> Result<Option<(Id, &'a str)>, Memory>
+    requires room { length symbols.old + length text.now < 2 ^ 32 - 1 }
+    ensures table { Extends symbols.old symbols.new }
+    ensures limit { length symbols.new ≤ length symbols.old + length text.now }
+    ensures front { IfOk result (IsSymbolFront symbols.new text.now) }
+    ensures further { IfOk result (IsFurther (length symbols.old) (length symbols.new) text.now) }
+{
+    match behind(text, '"') {
+        Some(quoted) => quoted_symbol(alloc, symbols, quoted),
+        None => bare_symbol(symbols, text),
+    }
+}
+
+/// An attribute with its `: `, and what is behind it.
+fn arc<'a>(
+    alloc: Global,
+    symbols: &mut Symbols,
+    first: bool,
+    text: &'a str,
+) -> Result<Option<(Event, &'a str)>, Memory>
+    requires room { length symbols.old + length text.now < 2 ^ 32 - 1 }
+    ensures table { Extends symbols.old symbols.new }
+    ensures limit { length symbols.new ≤ length symbols.old + length text.now }
+    ensures item { IfOk result (IsArcFront symbols.new first text.now) }
+    ensures further { IfOk result (IsFurther (length symbols.old) (length symbols.new) text.now) }
+    ensures spelled { IfOk result (IsSpelledItem (length symbols.new)) }
+{
+    let Some((attribute, rest)) = symbol_front(alloc, symbols, text)? else {
+        return Ok(None);
+    };
+    let Some(rest) = behind_both(rest, ':', ' ') else {
+        return Ok(None);
+    };
+    Ok(Some((Event::Arc { first, attribute }, rest)))
+}
+
+/// A number with the bracket of its node, or without, and what is behind it.
+fn numbered(text: &str) -> Option<(Event, &str)>
+    ensures { IsNumbered text.now result }
+{
+    let (number, rest) = number_front(text)?;
+    match behind_both(rest, ' ', '[') {
+        Some(rest) => Some((Event::Open(number), rest)),
+        None => Some((Event::Again(number), rest)),
+    }
+}
+
+/// What a value begins with, and what is behind it.
+fn value_item<'a>(
+    alloc: Global,
+    symbols: &mut Symbols,
+    text: &'a str,
+) -> Result<Option<(Event, &'a str)>, Memory>
+    requires room { length symbols.old + length text.now < 2 ^ 32 - 1 }
+    ensures table { Extends symbols.old symbols.new }
+    ensures limit { length symbols.new ≤ length symbols.old + length text.now }
+    ensures item { IfOk result (IsItem symbols.new AValue text.now) }
+    ensures further { IfOk result (IsFurther (length symbols.old) (length symbols.new) text.now) }
+    ensures spelled { IfOk result (IsSpelledItem (length symbols.new)) }
+{
+    if let Some(rest) = behind(text, '[') {
+        return Ok(Some((Event::Open(0), rest)));
+    }
+    if let Some(rest) = behind(text, '#') {
+        return Ok(numbered(rest));
+    }
+    let Some((atom, rest)) = symbol_front(alloc, symbols, text)? else {
+        return Ok(None);
+    };
+    Ok(Some((Event::Atom(atom), rest)))
+}
+
+/// A node's bracket or its first attribute, and what is behind it.
+fn first_item<'a>(
+    alloc: Global,
+    symbols: &mut Symbols,
+    text: &'a str,
+) -> Result<Option<(Event, &'a str)>, Memory>
+    requires room { length symbols.old + length text.now < 2 ^ 32 - 1 }
+    ensures table { Extends symbols.old symbols.new }
+    ensures limit { length symbols.new ≤ length symbols.old + length text.now }
+    ensures item { IfOk result (IsItem symbols.new AFirst text.now) }
+    ensures further { IfOk result (IsFurther (length symbols.old) (length symbols.new) text.now) }
+    ensures spelled { IfOk result (IsSpelledItem (length symbols.new)) }
+{
+    if let Some(rest) = behind(text, ']') {
+        return Ok(Some((Event::Close, rest)));
+    }
+    arc(alloc, symbols, true, text)
+}
+
+/// A node's bracket or a further attribute, and what is behind it.
+fn next_item<'a>(
+    alloc: Global,
+    symbols: &mut Symbols,
+    text: &'a str,
+) -> Result<Option<(Event, &'a str)>, Memory>
+    requires room { length symbols.old + length text.now < 2 ^ 32 - 1 }
+    ensures table { Extends symbols.old symbols.new }
+    ensures limit { length symbols.new ≤ length symbols.old + length text.now }
+    ensures item { IfOk result (IsItem symbols.new ANext text.now) }
+    ensures further { IfOk result (IsFurther (length symbols.old) (length symbols.new) text.now) }
+    ensures spelled { IfOk result (IsSpelledItem (length symbols.new)) }
+{
+    if let Some(rest) = behind(text, ']') {
+        return Ok(Some((Event::Close, rest)));
+    }
+    let Some(rest) = behind(text, ' ') else {
+        return Ok(None);
+    };
+    arc(alloc, symbols, false, rest)
+}
+
+/// What stands at the front of a canonical text, or of what is left of one, by what is expected, and what is behind
+/// it. Symbols get their numbers.
+pub(crate) fn item_front<'a>(
+    alloc: Global,
+    symbols: &mut Symbols,
+    expected: Expected,
+    text: &'a str,
+) -> Result<Option<(Event, &'a str)>, Memory>
+    requires room { length symbols.old + length text.now < 2 ^ 32 - 1 }
+    ensures table { Extends symbols.old symbols.new }
+    ensures limit { length symbols.new ≤ length symbols.old + length text.now }
+    ensures item { IfOk result (IsItem symbols.new (expected_seen expected) text.now) }
+    ensures further { IfOk result (IsFurther (length symbols.old) (length symbols.new) text.now) }
+    ensures spelled { IfOk result (IsSpelledItem (length symbols.new)) }
+{
+    match expected {
+        Expected::Value => value_item(alloc, symbols, text),
+        Expected::First => first_item(alloc, symbols, text),
+        Expected::Next => next_item(alloc, symbols, text),
+    }
+}
