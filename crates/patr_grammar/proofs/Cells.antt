@@ -1,6 +1,7 @@
 -- The first of some lexemes, as a pattern of the code takes it.
-use Rattle.std.proofs.Common.{◌≡◌, ℕ, suc, ◌-◌, ◌≤◌, ◌<◌, List, [], ◌∷◌, length, get_or, take, drop, refl, sym, ap, ◌∙◌, arith}
+use Rattle.std.proofs.Common.{◌≡◌, ℕ, suc, ◌-◌, ◌≤◌, ◌<◌, List, [], ◌∷◌, length, get_or, take, drop, refl, sym, ap, ◌∙◌, arith, eqb, true, false}
 use Rattle.std.proofs.Math.Seq.{take-length}
+use Rattle.std.proofs.lemmas.Bool.Decides.{nat_tests}
 use Rattle.patr_model.specs.declared.front.Kind.TheVariants.{Less}
 use Rattle.patr_model.specs.declared.notation.Key.TheVariants.{Plain}
 use Rattle.patr_grammar.specs.declared.lexeme.Lexeme.{Lexeme}
@@ -24,3 +25,9 @@ shorter_others ts h = omega (arith, ap length (cell ts h))
 pub no_cell : (ts : List Lexeme) → length ts < 1 → ts ≡ []
 no_cell [] h = refl
 no_cell (t ∷ ts) h = absurd (omega arith)
+
+pub some_left : (ts : List Lexeme) → eqb (length ts) 0 ≡ false → 1 ≤ length ts
+some_left ts h = grind (arith, nat_tests)
+
+pub none_left : (ts : List Lexeme) → eqb (length ts) 0 ≡ true → length ts ≡ 0
+none_left ts h = grind (arith, nat_tests)

@@ -1,18 +1,18 @@
 -- A grammar that was read stays what was read while the table grows.
-use Rattle.std.proofs.Common.{ℕ, List, map, Option, None, Some}
+use Rattle.std.proofs.Common.{ℕ, List, [], ◌∷◌, map, Option, None, Some}
 use Rattle.patr_model.specs.Grammar.{Row, Rows, Done, One, OneOf, Optional, None', Or}
-use Rattle.patr_model.specs.Renaming.{Both, SameRow, SameRows'}
-use Rattle.patr_model.specs.Agreeing.{SameSymbolText, SamePathText, SameTermText, SameEquationText, SameRuleText}
+use Rattle.patr_model.specs.Renaming.{Each, Both, SameRow, SameRows'}
+use Rattle.patr_model.specs.Agreeing.{SameSymbolText, SamePathText, SameTermText, SameEquationText, SameRuleText, SameTemplate, SameLexicalRule}
 use Rattle.patr_model.specs.Productions.{Grammar, SymbolText, PathText, TermText, AtomText, OfPath, EquationText, RuleText}
 use Rattle.patr_text.specs.declared.symbols.Id.{Id}
 use Rattle.patr_text.specs.Texts.{Extends}
 use Rattle.patr_grammar.specs.declared.grammar.Grammar as code_grammar
-use Rattle.patr_grammar.specs.Reading.{IsText, IsGrammar, rule_seen}
+use Rattle.patr_grammar.specs.Reading.{IsText, IsGrammar, cat_number, rule_seen}
 use Rattle.patr_grammar.proofs.Tables.{each_still, text_still}
 
 -- what belongs together by fewer pairs of words does by more
 module _ {W V : Type 0} (P Q : W → V → Type 0) (f : (x : W) (y : V) → P x y → Q x y) where
-  both_still : (a : Option W) (b : Option V) → Both P a b → Both Q a b
+  pub both_still : (a : Option W) (b : Option V) → Both P a b → Both Q a b
   both_still None None h = tt
   both_still None (Some y) h = absurd h
   both_still (Some x) None h = absurd h
@@ -30,11 +30,11 @@ module _ {W V : Type 0} (P Q : W → V → Type 0) (f : (x : W) (y : V) → P x 
   term_still (OfPath p) (AtomText b) h = absurd h
   term_still (OfPath p) (OfPath q) h = path_still p q h
 
-  equation_still : (e : EquationText W) (e' : EquationText V) → SameEquationText P e e' → SameEquationText Q e e'
+  pub equation_still : (e : EquationText W) (e' : EquationText V) → SameEquationText P e e' → SameEquationText Q e e'
   equation_still e e' h = record { left = path_still e.left e'.left h.left; right = term_still e.right e'.right h.right }
 
 mutual
-  row_still : {X Y : Type 0} (R S : X → Y → Type 0) → ((x : X) (y : Y) → R x y → S x y) → (r : Row X) (s : Row Y) → SameRow R r s → SameRow S r s
+  pub row_still : {X Y : Type 0} (R S : X → Y → Type 0) → ((x : X) (y : Y) → R x y → S x y) → (r : Row X) (s : Row Y) → SameRow R r s → SameRow S r s
   row_still R S f Done Done h = tt
   row_still R S f (One x r) (One y s) h = (f x y h.0, row_still R S f r s h.1)
   row_still R S f (OneOf rs r) (OneOf ss s) h = (rows_still R S f rs ss h.0, row_still R S f r s h.1)
@@ -69,9 +69,21 @@ rule_still old new e r s h =
       equations = row_still (SameEquationText (IsText old)) (SameEquationText (IsText new)) (equation_still (IsText old) (IsText new) f) r.equations s.equations h.equations;
     }
 
+nothing_still : {X Y : Type 0} (R S : X → Y → Type 0) (ys : List Y) → Each R [] ys → Each S [] ys
+nothing_still R S [] h = tt
+nothing_still R S (y ∷ ys) h = absurd h
+
 -- a grammar that was read stays what was read in a longer table
 pub grammar_still : (old new : List (List ℕ)) → Extends old new → (g : code_grammar.Grammar) (t : Grammar (List ℕ)) → IsGrammar old g t → IsGrammar new g t
-grammar_still old new e g t h = record {
-  rules = each_still (SameRuleText (IsText old)) (SameRuleText (IsText new)) (rule_still old new e) (map rule_seen g.rules.items) t.rules h.rules;
-  start = text_still old new e g.start.0 t.start h.start;
-}
+grammar_still old new e g t h =
+    let P = IsText old in
+    let Q = IsText new in
+    let f : (i : Id) (t : List ℕ) → P i t → Q i t = λ i t is. text_still old new e i.0 t is in
+    record {
+      rules = each_still (SameRuleText P) (SameRuleText Q) (rule_still old new e) (map rule_seen g.rules.items) t.rules h.rules;
+      templates = nothing_still (SameTemplate P) (SameTemplate Q) t.templates h.templates;
+      lexical_rules = nothing_still (SameLexicalRule P) (SameLexicalRule Q) t.lexical_rules h.lexical_rules;
+      start = f g.start t.start h.start;
+      restrictor = each_still (Each P) (Each Q) (each_still P Q f) ((cat_number ∷ []) ∷ []) t.restrictor h.restrictor;
+      order = nothing_still P Q t.order h.order;
+    }

@@ -7,3 +7,8 @@ pub mod Meanings
 pub mod Spelled
 pub mod Tables
 pub mod Texts
+pub mod Written
+pub mod Features
+pub mod FeatureRefusals
+pub mod SameFeatures
+pub mod FeatureMeanings

@@ -1,5 +1,5 @@
 -- Tokens in order, and the bytes that they have.
-use Rattle.std.proofs.Common.{ℕ, ◌+◌, ◌≤◌, List, [], ◌∷◌, length, arith}
+use Rattle.std.proofs.Common.{◌≡◌, ℕ, ◌+◌, ◌≤◌, List, [], ◌∷◌, length, ap, arith}
 use Rattle.std.specs.List.{All}
 use Rattle.std.proofs.lemmas.List.Elements.{All-nil, All-cons, All-head, All-tail}
 use Rattle.patr_text.specs.declared.token.Token.{Token}
@@ -19,3 +19,7 @@ bytes_in_order (t ∷ ts) at end le order = omega (arith, bytes_in_order ts t.en
 pub count_in_order : (ts : List Token) (at end : ℕ) → at ≤ end → InOrder at end ts → length ts + at ≤ end
 count_in_order [] at end le order = omega arith
 count_in_order (t ∷ ts) at end le order = omega (arith, count_in_order ts t.end end order.2 order.3)
+
+-- tokens of a text have no more bytes than it
+pub bytes_within_text : (text : List ℕ) (ts items : List Token) → ts ≡ items → InOrder 0 (length text) items → bytes_of ts ≤ length text
+bytes_within_text text ts items e order = omega (arith, ap bytes_of e, bytes_in_order items 0 (length text) (omega arith) order)

@@ -1,14 +1,15 @@
 -- What the reader passes on, as the definitions see it.
-use Rattle.std.specs.Prelude.{◌≡◌, ℕ, ◌+◌, ◌-◌, ◌<◌, List, [], ◌∷◌, map, nat_eq, Result, Ok, Err}
+use Rattle.std.specs.Prelude.{◌≡◌, ℕ, ◌+◌, ◌-◌, ◌<◌, List, [], ◌∷◌, Bool, true, false, cond, nat_eq, Result, Ok, Err}
 use Rattle.std.specs.declared.vec.Vec.{Vec}
 use Rattle.std.specs.declared.alloc.Global.{Global}
-use Rattle.patr_model.specs.Grammar.{Row}
+use Rattle.patr_model.specs.Grammar.{Row, Done}
 use Rattle.patr_model.specs.Tokens.{Place, Token}
 use Rattle.patr_model.specs.Lexemes.{Words, key_of, without_index}
 use Rattle.patr_model.specs.Parsing as parsing
-use Rattle.patr_model.specs.Parsing.{Parse, Got, Stops}
+use Rattle.patr_model.specs.Parsing.{Parse, Got, Stops, Reads}
 use Rattle.patr_model.specs.Productions as production
-use Rattle.patr_model.specs.Productions.{Left, Clause, RuleClause, Outcome, Stands, Refused}
+use Rattle.patr_model.specs.Stages.{Stage}
+use Rattle.patr_model.specs.Productions.{Item, Single, Equates, FeatureText, EquationText, Left, Clause, RuleClause, Outcome, Stands, Refused, symbols_of, elements}
 use Rattle.patr_text.specs.declared.fault.Fault as fault
 use Rattle.patr_text.specs.declared.fault.Fault.TheVariants as faulty
 use Rattle.patr_text.specs.declared.symbols.Id.{Id}
@@ -16,14 +17,17 @@ use Rattle.patr_text.specs.declared.token.Token as code
 use Rattle.patr_text.specs.Tokens.{IsCut}
 use Rattle.patr_grammar.specs.declared.place.Place as code_place
 use Rattle.patr_grammar.specs.declared.lexeme.Lexeme.{Lexeme}
-use Rattle.patr_grammar.specs.declared.grammar.Item.{Item}
+use Rattle.patr_grammar.specs.declared.grammar.Item as code_item
+use Rattle.patr_grammar.specs.declared.grammar.Element.{Element}
 use Rattle.patr_grammar.specs.declared.grammar.RuleText.{RuleText}
 use Rattle.patr_grammar.specs.declared.grammar.Grammar.{Grammar}
 use Rattle.patr_grammar.specs.declared.grammar.GrammarCause.{GrammarCause}
 use Rattle.patr_grammar.specs.declared.grammar.GrammarCause.TheVariants as cause
 use Rattle.patr_grammar.specs.declared.reader.Refusal.{Refusal}
-use Rattle.patr_grammar.specs.declared.reader.Refusal.TheVariants.{Expected, TooManySymbols, LaterForm}
-use Rattle.patr_grammar.specs.Reading.{IsText, right_seen, rule_seen}
+use Rattle.patr_grammar.specs.declared.reader.Refusal.TheVariants.{Expected, NotAConstituent, PathTooLong, TooManySymbols, LaterForm}
+use Rattle.patr_grammar.specs.declared.head.Head as code_head
+use Rattle.patr_grammar.specs.declared.head.Head.TheVariants as heads
+use Rattle.patr_grammar.specs.Reading.{IsText, right_seen, element_seen, equations_seen, features_seen, rule_seen, grammar_seen}
 
 -- ---- tokens
 
@@ -67,15 +71,42 @@ first_place end (t ∷ ts) = by_id.place t
 
 -- ---- what is read
 
+-- the stage at which path equations are read, or are a later form, and all other forms are later ones
+abbrev pub stage_of : Bool → Stage
+stage_of equations = record { equations = equations; groups = false; lexical_rules = false; parameters = false }
+
 -- a refusal of the code
 abbrev pub refusal_seen : Refusal → parsing.Refusal Id
 refusal_seen (Expected what) = parsing.Expected what
+refusal_seen NotAConstituent = parsing.NotAConstituent
+refusal_seen PathTooLong = parsing.PathTooLong
 refusal_seen TooManySymbols = parsing.TooManySymbols
 refusal_seen LaterForm = parsing.LaterForm
 
 -- a right side of the code
-abbrev pub right_view : Vec Item Global → Row (production.SymbolText Id)
+abbrev pub right_view : Vec code_item.Item Global → Row (production.SymbolText Id)
 right_view v = right_seen v.items
+
+-- what the first word of a path has to be
+abbrev pub head_seen : code_head.Head → production.Head Id
+head_seen (heads.AmongSymbols mother right) = production.AmongSymbols (mother ∷ symbols_of (right_seen right.now))
+head_seen heads.AnyAttribute = production.AnyAttribute
+
+-- an equation of a rule of the code, as an item
+abbrev pub equation_item : Element → Item (EquationText Id)
+equation_item e = Single (element_seen e)
+
+-- a feature of the code, as an item
+abbrev pub feature_item : Element → Item (FeatureText Id)
+feature_item e = Single (Equates (element_seen e))
+
+-- the equations of a rule of the code
+abbrev pub equations_view : Vec Element Global → Row (EquationText Id)
+equations_view v = equations_seen v.items
+
+-- features of the code
+abbrev pub features_view : Vec Element Global → Row (FeatureText Id)
+features_view v = features_seen v.items
 
 -- a rule of the code, as a clause
 abbrev pub rule_view : RuleText → Clause Id
@@ -97,13 +128,11 @@ left_over symbols rest = record { symbols = symbols; tokens = rest }
 
 -- ---- what lexemes stand for
 
--- a grammar of the code, which has rules alone
-abbrev pub grammar_seen : Id → Grammar → production.Grammar Id
-grammar_seen cat g = record { rules = map rule_seen g.rules.items; templates = []; lexical_rules = []; start = g.start; restrictor = (cat ∷ []) ∷ []; order = [] }
-
 -- the cause of a refusal at a place
 abbrev pub cause_at : Refusal → code_place.Place → GrammarCause
 cause_at (Expected what) p = cause.Expected p.line p.column what
+cause_at NotAConstituent p = cause.NotAConstituent p.line p.column
+cause_at PathTooLong p = cause.PathTooLong p.line p.column
 cause_at TooManySymbols p = cause.TooManySymbols p.line p.column
 cause_at LaterForm p = cause.LaterForm p.line p.column
 
@@ -118,6 +147,32 @@ Answers cat end (Err faulty.Memory) o = Unit {0}
 Answers cat end (Err (faulty.Refused (cause.NotUtf8 at))) o = ⊥
 Answers cat end (Err (faulty.Refused (cause.BadToken line column))) o = ⊥
 Answers cat end (Err (faulty.Refused (cause.Expected line column what))) o = IsRefusedAt (parsing.Expected what) line column end o
+Answers cat end (Err (faulty.Refused (cause.NotAConstituent line column))) o = IsRefusedAt parsing.NotAConstituent line column end o
+Answers cat end (Err (faulty.Refused (cause.PathTooLong line column))) o = IsRefusedAt parsing.PathTooLong line column end o
 Answers cat end (Err (faulty.Refused (cause.TooManySymbols line column))) o = IsRefusedAt parsing.TooManySymbols line column end o
 Answers cat end (Err (faulty.Refused cause.NoRules)) o = o ≡ production.NoRules
 Answers cat end (Err (faulty.Refused (cause.LaterForm line column))) o = IsRefusedAt parsing.LaterForm line column end o
+
+-- ---- what the lexemes of features stand for
+
+-- before equations are built, each token is a later form
+abbrev pub no_features : {T W : Type 0} → Reads T W (Row (FeatureText W))
+no_features [] = Got Done []
+no_features (t ∷ ts) = Stops parsing.LaterForm (t ∷ ts)
+
+-- features up to the end, where equations are built or not
+abbrev pub features_by : {T W : Type 0} → Words T W → Bool → Reads T W (Row (FeatureText W))
+features_by words built ts = cond built (elements words (stage_of true) ts) (no_features ts)
+
+-- a lexeme, or the end, is refused at this place
+abbrev pub StopsAt : {X : Type 0} → parsing.Refusal Id → ℕ → ℕ → Place → Parse Lexeme Id (List Lexeme) X → Type 0
+StopsAt r line column end p = (rest : List Lexeme) × (p ≡ Stops r rest) × (record { line = line; column = column } ≡ first_place end rest)
+
+-- the answer is what was read of lexemes that end at this place, unless memory ran out
+abbrev pub AnswersFeatures : Place → Result (Vec Element Global) (fault.Fault GrammarCause) → Parse Lexeme Id (List Lexeme) (Row (FeatureText Id)) → Type 0
+AnswersFeatures end (Ok v) p = (rest : List Lexeme) × (p ≡ Got (features_view v) rest)
+AnswersFeatures end (Err faulty.Memory) p = Unit {0}
+AnswersFeatures end (Err (faulty.Refused (cause.Expected line column what))) p = StopsAt (parsing.Expected what) line column end p
+AnswersFeatures end (Err (faulty.Refused (cause.PathTooLong line column))) p = StopsAt parsing.PathTooLong line column end p
+AnswersFeatures end (Err (faulty.Refused (cause.LaterForm line column))) p = StopsAt parsing.LaterForm line column end p
+AnswersFeatures end (Err (faulty.Refused _)) p = ⊥

@@ -19,6 +19,33 @@ pub enum Item {
     Symbol(SymbolText),
 }
 
+/// A path: the symbol of the constituent at which it begins, where it has one, and its attributes.
+#[derive(Debug, Drop)]
+pub struct PathText {
+    pub head: Option<Id>,
+    pub attributes: Vec<Id>,
+}
+
+/// What a path equals: an atom, or what another path leads to.
+#[derive(Debug, Drop)]
+pub enum TermText {
+    Atom(Id),
+    Path(PathText),
+}
+
+/// A path equation (Shieber 1986): both sides are defined and have one value.
+#[derive(Debug, Drop)]
+pub struct EquationText {
+    pub left: PathText,
+    pub right: TermText,
+}
+
+/// An element of a rule's equations or of features.
+#[derive(Debug, Drop)]
+pub enum Element {
+    Equation(EquationText),
+}
+
 /// A rule as it is written.
 #[derive(Debug, Drop)]
 pub struct RuleText {
@@ -28,6 +55,8 @@ pub struct RuleText {
     pub name: Vec<Id>,
     pub mother: SymbolText,
     pub right: Vec<Item>,
+    /// In each path the first word is a symbol of the rule.
+    pub equations: Vec<Element>,
 }
 
 /// A grammar as it is written.
@@ -50,6 +79,12 @@ pub enum GrammarCause {
     /// Something else has to stand here.
     #[error("{line}:{column}: expected {}", expected_text(.what))]
     Expected { line: u32, column: u32, what: What },
+    /// The first word of a path is no symbol of its rule.
+    #[error("{line}:{column}: not a constituent")]
+    NotAConstituent { line: u32, column: u32 },
+    /// A path has more than 32 attributes; the first too many stands here.
+    #[error("{line}:{column}: path too long")]
+    PathTooLong { line: u32, column: u32 },
     /// A right side has more than 32 symbols; the first too many stands here.
     #[error("{line}:{column}: too many symbols")]
     TooManySymbols { line: u32, column: u32 },

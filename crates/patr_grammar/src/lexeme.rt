@@ -39,7 +39,7 @@ impl Lexeme {
     }
 
     /// It is a word that begins a clause.
-    fn is_clause_word(&self) -> bool
+    pub fn is_clause_word(&self) -> bool
         ensures { result ≡ is_clause_word by_id self.now }
     {
         self.is_key(Key::Rule)

@@ -1,7 +1,9 @@
 //! The notation of grammars: what the bytes of a grammar stand for, or why they stand for none.
 #![tactic(auto)]
 
+mod equations;
 mod grammar;
+mod head;
 mod lexeme;
 mod numbering;
 mod place;
@@ -9,9 +11,12 @@ mod reader;
 mod reading;
 mod words;
 
-pub use grammar::{Grammar, GrammarCause, Item, RuleText, SymbolText, expected_text};
+pub use grammar::{
+    Element, EquationText, Grammar, GrammarCause, Item, PathText, RuleText, SymbolText, TermText,
+    expected_text,
+};
 pub use patr_model::What;
-pub use reading::read_grammar;
+pub use reading::{read_elements, read_grammar};
 
 #[cfg(test)]
 mod tests;

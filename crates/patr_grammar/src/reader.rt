@@ -2,16 +2,15 @@
 ghost use Rattle.std.specs.Prelude.{◌≡◌, ◌<◌, ◌≤◌, [], length, map, IfOk, OnOk, false};
 ghost use Rattle.patr_model.specs.declared.front.Kind.TheVariants.{Arrow, OpenBrace};
 ghost use Rattle.patr_model.specs.declared.notation.What.TheVariants.{Symbol};
-ghost use Rattle.patr_model.specs.Grammar.{Done};
 ghost use Rattle.patr_model.specs.Lexemes.{is_kind, is_key, is_symbol, begins};
 ghost use Rattle.patr_model.specs.Parsing.{one, maybe};
 ghost use Rattle.patr_model.specs.Stages.{plain_rules};
-ghost use Rattle.patr_model.specs.Productions.{Single, Head, name_tokens, rule_name, opens_equations, begins_outer, item, right_side, ruleitems, rule, clause, clauses};
-ghost use Rattle.patr_text.specs.declared.symbols.Id.{Id};
+ghost use Rattle.patr_model.specs.Productions.{Single, name_tokens, rule_name, opens_equations, begins_outer, item, right_side, rule, clause, clauses};
 ghost use Rattle.patr_grammar.specs.Reading.{item_seen, rule_seen};
-ghost use Rattle.patr_grammar.specs.Views.{by_id, left_over, Gives, GivesAt, right_view, rule_view};
+ghost use Rattle.patr_grammar.specs.Views.{by_id, stage_of, left_over, Gives, GivesAt, right_view, rule_view};
 
 use crate::grammar::{Item, RuleText, SymbolText};
+use crate::head::Head;
 use crate::lexeme::Lexeme;
 use patr_model::{Key, Kind, What};
 use patr_text::{Fault, Id};
@@ -25,6 +24,10 @@ const MOST_SYMBOLS: usize = 32;
 pub enum Refusal {
     /// Something else has to stand there.
     Expected(What),
+    /// It is no symbol of the rule that the path belongs to.
+    NotAConstituent,
+    /// It is one attribute too many of a path.
+    PathTooLong,
     /// It is one symbol too many of a right side.
     TooManySymbols,
     /// It begins a form that is not built yet.
@@ -43,12 +46,22 @@ pub struct Reader<'a> {
 
 impl Reader<'_> {
     /// The lexemes begin with one of this kind.
-    fn begins(&self, kind: Kind) -> bool
+    pub fn begins(&self, kind: Kind) -> bool
         ensures { result ≡ begins (is_kind by_id kind) self.now.rest.now }
     {
         match self.rest {
             [] => false,
             [first, ..] => first.is_kind(kind),
+        }
+    }
+
+    /// The lexemes begin with a symbol.
+    pub fn begins_symbol(&self) -> bool
+        ensures { result ≡ begins (is_symbol by_id) self.now.rest.now }
+    {
+        match self.rest {
+            [] => false,
+            [first, ..] => first.is_symbol(),
         }
     }
 
@@ -63,7 +76,7 @@ impl Reader<'_> {
     }
 
     /// One lexeme of this kind.
-    fn one(&mut self, kind: Kind, what: What) -> Result<Lexeme, Fault<Refusal>>
+    pub fn one(&mut self, kind: Kind, what: What) -> Result<Lexeme, Fault<Refusal>>
         ensures gives { Gives (λ t. t) result self.new.rest.now (one (is_kind by_id kind) what self.old.rest.now) }
         ensures shorter { OnOk result (length self.new.rest.now < length self.old.rest.now) }
     {
@@ -220,20 +233,10 @@ impl Reader<'_> {
         Ok(right)
     }
 
-    /// Refuses equations and their choices, which are not built yet.
-    fn no_equations(&self) -> Result<(), Fault<Refusal>>
-        ensures { (h : Head Id) → Gives (λ _. Done) result self.now.rest.now (ruleitems by_id plain_rules h self.now.rest.now) }
-    {
-        if self.begins(Kind::Less) || self.begins(Kind::OpenBrace) {
-            return Err(Fault::Refused(Refusal::LaterForm));
-        }
-        Ok(())
-    }
-
     /// A rule.
     #[tactic(auto, unfolding(patr_model::specs::Productions::rule))]
-    fn rule(&mut self) -> Result<RuleText, Fault<Refusal>>
-        ensures gives { Gives rule_seen result self.new.rest.now (rule by_id plain_rules self.old.rest.now) }
+    fn rule(&mut self, equations: bool) -> Result<RuleText, Fault<Refusal>>
+        ensures gives { Gives rule_seen result self.new.rest.now (rule by_id (stage_of equations) self.old.rest.now) }
         ensures shorter { OnOk result (length self.new.rest.now < length self.old.rest.now) }
     {
         let word = self.key(Key::Rule, What::Clause)?;
@@ -242,7 +245,11 @@ impl Reader<'_> {
         self.one(Kind::Arrow, What::Arrow)?;
         let right = self.right_side()?;
         self.pass(Kind::Colon);
-        self.no_equations()?;
+        let head = Head::AmongSymbols {
+            mother: mother.word,
+            right: &right,
+        };
+        let equations = self.rule_items(equations, head)?;
         self.pass(Kind::Dot);
         Ok(RuleText {
             line: word.line,
@@ -252,12 +259,13 @@ impl Reader<'_> {
                 category: mother.category,
             },
             right,
+            equations,
         })
     }
 
     /// A clause, of which rules alone are built.
-    fn clause(&mut self) -> Result<RuleText, Fault<Refusal>>
-        ensures gives { Gives rule_view result self.new.rest.now (clause by_id plain_rules [] self.old.rest.now) }
+    fn clause(&mut self, equations: bool) -> Result<RuleText, Fault<Refusal>>
+        ensures gives { Gives rule_view result self.new.rest.now (clause by_id (stage_of equations) [] self.old.rest.now) }
         ensures shorter { OnOk result (length self.new.rest.now < length self.old.rest.now) }
     {
         if self.begins_key(Key::Let) {
@@ -269,17 +277,17 @@ impl Reader<'_> {
         if self.begins_key(Key::Parameter) {
             return Err(Fault::Refused(Refusal::LaterForm));
         }
-        self.rule()
+        self.rule(equations)
     }
 
     /// Clauses up to the end.
-    pub fn clauses(&mut self) -> Result<Vec<RuleText>, Fault<Refusal>>
-        ensures gives { Gives (λ v. map rule_view v.items) result self.new.rest.now (clauses by_id plain_rules (length self.old.rest.now) [] self.old.rest.now) }
+    pub fn clauses(&mut self, equations: bool) -> Result<Vec<RuleText>, Fault<Refusal>>
+        ensures gives { Gives (λ v. map rule_view v.items) result self.new.rest.now (clauses by_id (stage_of equations) (length self.old.rest.now) [] self.old.rest.now) }
         ensures few { IfOk result (λ v. length v.items ≤ length self.old.rest.now) }
     {
         let mut rules = Vec::new(self.alloc);
         while !self.rest.is_empty() {
-            let rule = self.clause()?;
+            let rule = self.clause(equations)?;
             rules.push(rule)?;
         }
         Ok(rules)

@@ -1,5 +1,8 @@
+ghost use Rattle.std.specs.Prelude.{◌+◌, ◌-◌, ◌^◌, ◌<◌, length};
+
 use super::*;
-use patr_text::{Fault, Id, Symbols};
+use crate::reading::{elements, read_text};
+use patr_text::{Fault, Id, Symbols, tokens};
 use std::alloc::Global;
 use std::process::Abort;
 use std::test::Fail;
@@ -65,6 +68,44 @@ const GRAMMARS: [(&[u8], &str); 36] = [
     ),
 ];
 
+/// Grammars with path equations, and what they are read as once equations are built.
+const WITH_EQUATIONS: [(&str, &str); 9] = [
+    (
+        "Rule S -> NP VP <NP agr> = <VP agr> <S subj> = <NP> <S f> = x",
+        "1 S:S -> NP:NP VP:VP <NP agr> = <VP agr> <S subj> = <NP> <S f> = x|start S",
+    ),
+    (
+        "Rule S -> A_1: <A_1 is rule> = Let . Rule A ->",
+        "1 S:S -> A_1:A <A_1 is rule> = Let|1 A:A ->|start S",
+    ),
+    ("Rule S -> A <B f> = x", "1:14: not a constituent"),
+    ("Rule Rule_1 -> A <Rule f> = x", "1:19: not a constituent"),
+    (
+        "Rule S -> NP VP <NP agr> =",
+        "1:27: expected a path or an atom",
+    ),
+    (
+        "Rule S -> A <S a a a a a a a a a a a a a a a a a a a a a a a a a a a a a a a a a> = x",
+        "1:80: path too long",
+    ),
+    ("Rule S -> A <S f = x", "1:18: expected '>'"),
+    ("Rule S -> A <S f> x", "1:19: expected '='"),
+    ("Rule S -> A <S f> = x {<S g> = y}", "1:23: not built yet"),
+];
+
+/// Features, and what they are read as once equations are built.
+const FEATURES: [(&str, &str); 6] = [
+    ("; none", ""),
+    (
+        "<agr num> = sg\n<rule> = <subj head>",
+        " <agr num> = sg <rule> = <subj head>",
+    ),
+    ("<f> = x Sg3", "1:9: not built yet"),
+    ("<f> = {", "1:7: expected a path or an atom"),
+    ("<f> = x Rule", "1:9: expected an equation or a name"),
+    ("<f> = x\n <>", "2:3: expected an attribute"),
+];
+
 /// The text of a number, where the table has one.
 fn text_of(symbols: &Symbols, id: Id) -> &str {
     if id.0 < symbols.len() {
@@ -94,6 +135,36 @@ fn shown_name(alloc: Global, symbols: &Symbols, name: &[Id]) -> Result<String, F
     Ok(shown)
 }
 
+/// A path in angle brackets.
+fn shown_path(alloc: Global, symbols: &Symbols, path: &PathText) -> Result<String, Fail> {
+    let mut shown = String::new(alloc);
+    if let Some(head) = path.head {
+        shown.push_str(text_of(symbols, head))?;
+    }
+    for attribute in &path.attributes {
+        if !shown.is_empty() {
+            shown.push_str(" ")?;
+        }
+        shown.push_str(text_of(symbols, *attribute))?;
+    }
+    Ok(format!(in alloc; "<{shown}>")?)
+}
+
+/// Equations, with a space before each.
+fn shown_elements(alloc: Global, symbols: &Symbols, elements: &[Element]) -> Result<String, Fail> {
+    let mut shown = String::new(alloc);
+    for element in elements {
+        let Element::Equation(equation) = element;
+        let left = shown_path(alloc, symbols, &equation.left)?;
+        let right = match &equation.right {
+            TermText::Atom(atom) => String::from_str(alloc, text_of(symbols, *atom))?,
+            TermText::Path(path) => shown_path(alloc, symbols, path)?,
+        };
+        shown.push_str(&format!(in alloc; " {left} = {right}")?)?;
+    }
+    Ok(shown)
+}
+
 /// The rules of a grammar, each with its line, and the start symbol.
 fn shown_grammar(alloc: Global, symbols: &Symbols, grammar: &Grammar) -> Result<String, Fail> {
     let mut shown = String::new(alloc);
@@ -110,6 +181,7 @@ fn shown_grammar(alloc: Global, symbols: &Symbols, grammar: &Grammar) -> Result<
                 }
             }
         }
+        shown.push_str(&shown_elements(alloc, symbols, &rule.equations)?)?;
         shown.push_str("|")?;
     }
     shown.push_str("start ")?;
@@ -117,12 +189,65 @@ fn shown_grammar(alloc: Global, symbols: &Symbols, grammar: &Grammar) -> Result<
     Ok(shown)
 }
 
+/// What was read, or why nothing was.
+fn shown_result(
+    alloc: Global,
+    symbols: &Symbols,
+    read: Result<Grammar, Fault<GrammarCause>>,
+) -> Result<String, Fail> {
+    match read {
+        Ok(grammar) => shown_grammar(alloc, symbols, &grammar),
+        Err(Fault::Refused(cause)) => Ok(format!(in alloc; "{cause}")?),
+        Err(Fault::Memory) => Ok(format!(in alloc; "no memory")?),
+    }
+}
+
 /// What the bytes of a grammar are read as.
 fn shown<A: Abort>(rt: &A, alloc: Global, bytes: &[u8]) -> Result<String, Fail> {
     let mut symbols = Symbols::new(alloc)?;
     assert!(rt; symbols.len() < 100 && bytes.len() < 200);
-    match read_grammar(alloc, &mut symbols, bytes) {
-        Ok(grammar) => shown_grammar(alloc, &symbols, &grammar),
+    let read = read_grammar(alloc, &mut symbols, bytes);
+    shown_result(alloc, &symbols, read)
+}
+
+/// What a grammar with equations is read as.
+fn shown_text<A: Abort>(rt: &A, alloc: Global, text: &str) -> Result<String, Fail> {
+    let mut symbols = Symbols::new(alloc)?;
+    assert!(rt; symbols.len() < 100 && text.len() < 200);
+    let read = read_text(alloc, &mut symbols, text, true);
+    shown_result(alloc, &symbols, read)
+}
+
+/// The features that a text stands for, where equations are built, or today.
+fn features_of(
+    alloc: Global,
+    symbols: &mut Symbols,
+    text: &str,
+    built: bool,
+) -> Result<Vec<Element>, Fault<GrammarCause>>
+    requires { length symbols.old + length text.now < 2 ^ 32 - 1 }
+{
+    let Ok(tokens) = tokens(alloc, text, 0, text.len(), 1, 1) else {
+        return Err(Fault::Memory);
+    };
+    if built {
+        elements(alloc, symbols, text, &tokens, true)
+    } else {
+        read_elements(alloc, symbols, text, &tokens)
+    }
+}
+
+/// What features are read as.
+fn shown_features<A: Abort>(
+    rt: &A,
+    alloc: Global,
+    text: &str,
+    built: bool,
+) -> Result<String, Fail> {
+    let mut symbols = Symbols::new(alloc)?;
+    assert!(rt; symbols.len() < 100 && text.len() < 200);
+    match features_of(alloc, &mut symbols, text, built) {
+        Ok(elements) => shown_elements(alloc, &symbols, &elements),
         Err(Fault::Refused(cause)) => Ok(format!(in alloc; "{cause}")?),
         Err(Fault::Memory) => Ok(format!(in alloc; "no memory")?),
     }
@@ -134,5 +259,22 @@ fn grammars_are_read_or_refused(rt: HostRuntime) -> Result<(), Fail> {
     for (bytes, wanted) in GRAMMARS {
         assert_eq!(rt; shown(&rt, alloc, bytes)?.as_str(), wanted);
     }
+    for (text, wanted) in WITH_EQUATIONS {
+        assert_eq!(rt; shown_text(&rt, alloc, text)?.as_str(), wanted);
+    }
+    Ok(())
+}
+
+#[test]
+fn features_are_read_or_refused(rt: HostRuntime) -> Result<(), Fail> {
+    let alloc = rt.alloc();
+    for (text, wanted) in FEATURES {
+        assert_eq!(rt; shown_features(&rt, alloc, text, true)?.as_str(), wanted);
+    }
+    assert_eq!(rt; shown_features(&rt, alloc, "; none", false)?.as_str(), "");
+    assert_eq!(rt;
+        shown_features(&rt, alloc, " <f> = x", false)?.as_str(),
+        "1:2: not built yet"
+    );
     Ok(())
 }

@@ -7,16 +7,13 @@ use Rattle.std.proofs.lemmas.Str.{IsCharBoundary-start}
 use Rattle.patr_model.specs.Renaming.{Each}
 use Rattle.patr_model.specs.Tokens.{scan, start_place, tokens_of}
 use Rattle.patr_text.specs.declared.token.Token.{Token}
-use Rattle.patr_text.specs.Tokens.{InOrder, seen}
+use Rattle.patr_text.specs.Tokens.{seen}
 use Rattle.patr_grammar.specs.declared.lexeme.Lexeme.{Lexeme}
-use Rattle.patr_grammar.specs.Views.{IsSpelled, IsLexeme, bytes_of}
+use Rattle.patr_grammar.specs.Views.{IsSpelled, IsLexeme, stage_of}
 use Rattle.patr_grammar.proofs.Meanings.{answered}
-use Rattle.patr_grammar.proofs.Spelled.{spelled_in_order, bytes_in_order, count_in_order}
+use Rattle.patr_grammar.proofs.Spelled.{spelled_in_order, bytes_within_text, count_in_order}
 use Rattle.patr_grammar.proofs.Tables.{each_length}
 use Rattle.patr_grammar.proofs.reading.read_text.Goals as goal
-
-within : (text : List ℕ) (ts items : List Token) → ts ≡ items → InOrder 0 (length text) items → bytes_of ts ≤ length text
-within text ts items e order = omega (arith, ap bytes_of e, bytes_in_order items 0 (length text) (omega arith) order)
 
 pub tokens-requires-clause-start : goal.tokens-requires-clause-start
 tokens-requires-clause-start c = IsCharBoundary-start c.args.text.now c.utf8.text
@@ -27,13 +24,13 @@ lexemes-requires-clause-spelled c =
     subst K (sym c.deref.ensures.value) (spelled_in_order c.args.text.now c.in-Ok.tokens.items 0 (length c.args.text.now) c.in-Ok.ensures.cut c.in-Ok.ensures.order)
 
 pub lexemes-requires-clause-room : goal.lexemes-requires-clause-room
-lexemes-requires-clause-room c = omega (arith, within c.args.text.now c.deref.result.now c.in-Ok.tokens.items c.deref.ensures.value c.in-Ok.ensures.order)
+lexemes-requires-clause-room c = omega (arith, bytes_within_text c.args.text.now c.deref.result.now c.in-Ok.tokens.items c.deref.ensures.value c.in-Ok.ensures.order)
 
 pub returns-in_err-lexemes-clause-growth : goal.returns-in_err-lexemes-clause-growth
-returns-in_err-lexemes-clause-growth c = omega (arith, c.lexemes.ensures.growth, within c.args.text.now c.deref.result.now c.in-Ok.tokens.items c.deref.ensures.value c.in-Ok.ensures.order)
+returns-in_err-lexemes-clause-growth c = omega (arith, c.lexemes.ensures.growth, bytes_within_text c.args.text.now c.deref.result.now c.in-Ok.tokens.items c.deref.ensures.value c.in-Ok.ensures.order)
 
 pub returns-clause-growth : goal.returns-clause-growth
-returns-clause-growth c = omega (arith, c.lexemes.ensures.growth, within c.args.text.now c.deref.result.now c.in-Ok.tokens.items c.deref.ensures.value c.in-Ok.ensures.order)
+returns-clause-growth c = omega (arith, c.lexemes.ensures.growth, bytes_within_text c.args.text.now c.deref.result.now c.in-Ok.tokens.items c.deref.ensures.value c.in-Ok.ensures.order)
 
 -- the lexemes are the tokens of the text
 each : (c : goal.After-drop-tokens-2) → Each (IsLexeme c.lexemes.new.symbols) c.deref-2.result.now (map (seen c.args.text.now) c.in-Ok.tokens.items)
@@ -45,10 +42,10 @@ scanned : (c : goal.After-drop-tokens-2) → tokens_of c.args.text.now ≡ Ok (m
 scanned c = ap (λ (bytes : List ℕ). scan 0 0 start_place bytes) (sym (take-length c.args.text.now)) ∙ c.in-Ok.ensures.read
 
 pub returns-clause-reads : goal.returns-clause-reads
-returns-clause-reads c = (answered c.lexemes.new.symbols c.args.text.now (map (seen c.args.text.now) c.in-Ok.tokens.items) c.utf8.text (scanned c) c.deref-2.result.now c.read.result c.len.ensures.one_to_one c.len.ensures.first (each c) c.read.ensures.answers).0
+returns-clause-reads c = (answered (stage_of c.args.equations) c.lexemes.new.symbols c.args.text.now (map (seen c.args.text.now) c.in-Ok.tokens.items) c.utf8.text (scanned c) c.deref-2.result.now c.read.result c.len.ensures.one_to_one c.len.ensures.first (each c) c.read.ensures.answers).0
 
 pub returns-clause-refused : goal.returns-clause-refused
-returns-clause-refused c = (answered c.lexemes.new.symbols c.args.text.now (map (seen c.args.text.now) c.in-Ok.tokens.items) c.utf8.text (scanned c) c.deref-2.result.now c.read.result c.len.ensures.one_to_one c.len.ensures.first (each c) c.read.ensures.answers).1
+returns-clause-refused c = (answered (stage_of c.args.equations) c.lexemes.new.symbols c.args.text.now (map (seen c.args.text.now) c.in-Ok.tokens.items) c.utf8.text (scanned c) c.deref-2.result.now c.read.result c.len.ensures.one_to_one c.len.ensures.first (each c) c.read.ensures.answers).1
 
 pub returns-clause-few : goal.returns-clause-few
 returns-clause-few c =

@@ -1,0 +1,96 @@
+-- Why features are refused: something else is expected, a path is too long, or a form is a later one.
+use Rattle.std.proofs.Common.{ℕ, zero, suc, Bool, true, false, cond, List, [], ◌∷◌, length, sym, subst}
+use Rattle.patr_model.specs.declared.front.Kind.TheVariants.{Less, Greater, Equal, OpenBrace, Word}
+use Rattle.patr_model.specs.declared.notation.What.{What}
+use Rattle.patr_model.specs.declared.notation.What.TheVariants as what
+use Rattle.patr_model.specs.Lexemes.{Words, is_kind, is_symbol, begins}
+use Rattle.patr_model.specs.Parsing.{Refusal, Expected, PathTooLong, LaterForm, Parse, Got, Stops, ◌>>=◌, Reads, one, many, star}
+use Rattle.patr_model.specs.Productions.{Item, FeatureText, AnyAttribute, word_list, path, term, equation, braced, begins_feature, single_feature, feature, elements}
+use Rattle.patr_grammar.specs.Views.{stage_of, no_features, features_by}
+use Rattle.patr_grammar.proofs.Features.{closed, elements_is}
+
+-- such a refusal
+abbrev pub IsOfFeatures : {W : Type 0} → Refusal W → Type 0
+IsOfFeatures (Expected w) = Unit {0}
+IsOfFeatures PathTooLong = Unit {0}
+IsOfFeatures LaterForm = Unit {0}
+IsOfFeatures _ = ⊥
+
+abbrev pub StopsSo : {T W S X : Type 0} → Parse T W S X → Type 0
+StopsSo (Got x s) = Unit {0}
+StopsSo (Stops r ts) = IsOfFeatures r
+
+-- what is read is refused so, if at all
+pub record IsRefusedSo {T W S X : Type 0} (p : Parse T W S X) : Type 0 where
+  pub is : StopsSo p
+
+got : {T W S X : Type 0} {x : X} {s : S} → IsRefusedSo {T = T} {W = W} (Got x s)
+got = record { is = tt }
+
+stops : {T W S X : Type 0} {r : Refusal W} {ts : List T} → IsOfFeatures r → IsRefusedSo {T = T} {W = W} {S = S} {X = X} (Stops r ts)
+stops h = record { is = h }
+
+binds : {T W S R X Y : Type 0} {p : Parse T W S X} {f : X → S → Parse T W R Y} → IsRefusedSo p → ((x : X) (s : S) → IsRefusedSo (f x s)) → IsRefusedSo (p >>= f)
+binds {p = Got x s} h k = k x s
+binds {p = Stops r ts} h k = record { is = h.is }
+
+chooses : {T W S X : Type 0} (b : Bool) {p q : Parse T W S X} → IsRefusedSo p → IsRefusedSo q → IsRefusedSo (cond b p q)
+chooses true h k = h
+chooses false h k = k
+
+ones : {T W : Type 0} (test : T → Bool) (w : What) (ts : List T) → IsRefusedSo (one {T = T} {W = W} test w ts)
+ones test w [] = stops tt
+ones test w (t ∷ ts) = chooses (test t) got (stops tt)
+
+manys : {T W X : Type 0} (n : ℕ) (starts : List T → Bool) (read : Reads T W X) → ((ts : List T) → IsRefusedSo (read ts)) → (ts : List T) → IsRefusedSo (many n starts read ts)
+unfolding many
+manys zero starts read h ts = got
+manys (suc n) starts read h ts = chooses (starts ts) (binds (h ts) (λ x rest. binds (manys n starts read h rest) (λ xs rest. got))) got
+
+module _ {T W : Type 0} (words : Words T W) where
+  word_lists : (left n : ℕ) (ts : List T) → IsRefusedSo (word_list words left n ts)
+  unfolding word_list
+  word_lists left zero ts = got
+  word_lists left (suc n) [] = got
+  word_lists zero (suc n) (t ∷ ts) = chooses (is_kind words Word t) (stops tt) got
+  word_lists (suc left) (suc n) (t ∷ ts) = chooses (is_kind words Word t) (binds (word_lists left n ts) (λ ws rest. got)) got
+
+  paths : (w : What) (ts : List T) → IsRefusedSo (path words AnyAttribute w ts)
+  unfolding path
+  paths w ts =
+      binds (ones (is_kind words Less) w ts) (λ _ ts.
+      binds (binds (ones (is_kind words Word) what.Attribute ts) (λ w rest. got)) (λ w ts.
+      binds (word_lists 31 (length ts) ts) (λ ws ts.
+      binds (ones (is_kind words Greater) what.Greater ts) (λ _ ts. got))))
+
+  terms : (ts : List T) → IsRefusedSo (term words AnyAttribute ts)
+  unfolding term
+  terms ts = chooses (begins (is_kind words Less) ts) (binds (paths what.PathOrAtom ts) (λ p ts. got)) (binds (ones (is_kind words Word) what.PathOrAtom ts) (λ w ts. got))
+
+  equations : (ts : List T) → IsRefusedSo (equation words AnyAttribute what.EquationOrName ts)
+  unfolding equation
+  equations ts = binds (paths what.EquationOrName ts) (λ l ts. binds (ones (is_kind words Equal) what.Equal ts) (λ _ ts. binds (terms ts) (λ r ts. got)))
+
+  singles : (ts : List T) → IsRefusedSo (single_feature words (stage_of true) ts)
+  singles ts = chooses (begins (is_kind words Less) ts) (binds (equations ts) (λ e ts. got)) (binds (ones (is_symbol words) what.EquationOrName ts) (λ t rest. stops tt))
+
+  in_braces : {X : Type 0} (n : ℕ) (starts : List T → Bool) (single : Reads T W X) → ((ts : List T) → IsRefusedSo (single ts)) → (ts : List T) → IsRefusedSo (braced words (suc n) false starts single ts)
+  unfolding braced
+  in_braces n starts single h ts = chooses (begins (is_kind words OpenBrace) ts) (stops tt) (binds (h ts) (λ x ts. got))
+
+  lists : (ts : List T) → IsRefusedSo (star (begins_feature words) (feature words (stage_of true)) ts)
+  lists ts = manys (length ts) (begins_feature words) (feature words (stage_of true)) (in_braces 15 (begins_feature words) (single_feature words (stage_of true)) singles) ts
+
+  built : (ts : List T) → IsRefusedSo (elements words (stage_of true) ts)
+  built ts = subst (λ p. IsRefusedSo p) (sym (elements_is words (stage_of true) ts)) (binds (lists ts) ends)
+    where
+      ends : (xs : List (Item (FeatureText W))) (rest : List T) → IsRefusedSo (closed words (stage_of true) xs rest)
+      ends xs [] = got
+      ends xs (t ∷ rest) = stops tt
+
+  none : (ts : List T) → IsRefusedSo (no_features {T = T} {W = W} ts)
+  none [] = got
+  none (t ∷ ts) = stops tt
+
+  pub refused_so : (b : Bool) (ts : List T) → IsRefusedSo (features_by words b ts)
+  refused_so b ts = chooses b (built ts) (none ts)
