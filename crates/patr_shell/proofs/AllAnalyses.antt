@@ -11,7 +11,7 @@ use Rattle.patr_model.specs.Plain.{plain}
 use Rattle.patr_model.proofs.Keys.{keys_tell}
 use Rattle.patr_shell.specs.declared.edge.Edge.{Edge}
 use Rattle.patr_shell.specs.declared.analyses.Analysis.{Analysis}
-use Rattle.patr_shell.specs.Numbered.{places}
+use Rattle.patr_model.specs.Numbered.{places}
 use Rattle.patr_shell.specs.Charted.{AreEdges, tree, derivations, starts_at}
 use Rattle.patr_shell.specs.Closing.{KindsFit}
 use Rattle.patr_shell.specs.Whole.{whole_at, HasKey, edge_of, AreAll}

@@ -8,7 +8,7 @@ use Rattle.patr_model.specs.Chart.{IsIn, EachOnce}
 use Rattle.patr_model.proofs.Maps.{some_inj}
 use Rattle.patr_model.proofs.Rounds.{in_left, in_right, in_either, once_append}
 use Rattle.patr_shell.specs.declared.edge.Edge.{Edge}
-use Rattle.patr_shell.specs.Numbered.{places}
+use Rattle.patr_model.specs.Numbered.{places}
 use Rattle.patr_shell.specs.Spoken.{has_mother, has_word}
 use Rattle.patr_shell.specs.Closing.{KindFits}
 use Rattle.patr_shell.specs.Tasks.{Has}

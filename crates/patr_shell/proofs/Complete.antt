@@ -14,7 +14,7 @@ use Rattle.patr_model.specs.Built.{stage, built, plain_grounds}
 use Rattle.patr_model.proofs.Maps.{some_inj}
 use Rattle.patr_model.proofs.OneRun.{no_grammar_fault, no_lexicon_fault}
 use Rattle.patr_grammar.specs.Reading.{fault_of}
-use Rattle.patr_shell.specs.LexiconReading.{fault_of as lexicon_fault_of}
+use Rattle.patr_lexicon.specs.Reading.{fault_of as lexicon_fault_of}
 use Rattle.patr_shell.specs.declared.status.GrammarTrouble.{GrammarTrouble}
 use Rattle.patr_shell.specs.declared.status.GrammarTrouble.TheVariants as grammar_trouble
 use Rattle.patr_shell.specs.declared.status.LexiconTrouble.{LexiconTrouble}

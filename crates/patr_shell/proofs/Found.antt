@@ -5,7 +5,7 @@ use Rattle.std.proofs.lemmas.List.{map-append}
 use Rattle.std.proofs.lemmas.List.Elements.{filter_more}
 use Rattle.patr_shell.specs.declared.edge.Edge.{Edge}
 use Rattle.patr_shell.specs.declared.analyses.Analysis.{Analysis}
-use Rattle.patr_shell.specs.Numbered.{places}
+use Rattle.patr_model.specs.Numbered.{places}
 use Rattle.patr_shell.specs.Whole.{edge_of}
 use Rattle.patr_shell.proofs.Trees.{get_below}
 use Rattle.patr_shell.proofs.Listed.{all_get}

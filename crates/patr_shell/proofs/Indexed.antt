@@ -7,7 +7,7 @@ use Rattle.patr_shell.specs.declared.edge.Edge.{Edge}
 use Rattle.patr_shell.specs.Edges.{is_passive}
 use Rattle.patr_shell.specs.Lists.{Numbers, with_number, IsEntered}
 use Rattle.patr_shell.specs.Charted.{starts_at, ends_at, is_partner, partners, IsEdgeAfter, AreEdges}
-use Rattle.patr_shell.specs.Numbered.{places}
+use Rattle.patr_model.specs.Numbered.{places}
 use Rattle.patr_shell.specs.Kept.{IsIndexed}
 use Rattle.patr_shell.proofs.Places.{get_cases, partners_last, partners_before, index_added, index_kept, places_length, found}
 

@@ -8,7 +8,7 @@ use Rattle.patr_text.specs.declared.symbols.Id.{Id}
 use Rattle.patr_model.specs.Derivation.{EntryVariant}
 use Rattle.patr_model.specs.Session.{Numbering, AgreesWith, Grounds, IsKnown, IsFirstUnknown}
 use Rattle.patr_model.proofs.Maps.{some_inj, and_then_some}
-use Rattle.patr_shell.specs.Numbered.{places}
+use Rattle.patr_model.specs.Numbered.{places}
 use Rattle.patr_shell.specs.Spoken.{Spoken, grounds, has_word}
 use Rattle.patr_shell.specs.Known.{HasWords, ids}
 use Rattle.patr_shell.specs.Tasks.{Has}

@@ -1,7 +1,8 @@
 -- The lists by number of a symbol.
-use Rattle.std.proofs.Common.{◌≡◌, ℕ, zero, suc, ◌+◌, ◌-◌, ◌<◌, Bool, nat_eq, List, [], ◌∷◌, ◌++◌, length, take, get_or, map, replicate, Some, slice_get, option_and_then, refl, sym, ap, ◌∙◌, arith, subst, length-set}
+use Rattle.std.proofs.Common.{◌≡◌, ℕ, zero, suc, ◌+◌, ◌-◌, ◌<◌, Bool, cond, nat_eq, List, [], ◌∷◌, ◌++◌, length, take, get_or, map, replicate, Some, slice_get, option_and_then, refl, sym, ap, ◌∙◌, arith, subst, length-set}
 use Rattle.std.specs.List.{AllByRecursion}
 use Rattle.std.proofs.lemmas.List.{length-map, length-replicate, get_or-replicate, length-take-le, take_more, map-append}
+use Rattle.patr_model.specs.Numbered.{places}
 use Rattle.patr_shell.specs.Lists.{Numbers, with_number}
 use Rattle.std.specs.Option.{option_map}
 use Rattle.std.proofs.lemmas.Option.{slice_get-get_or, slice_get-map}
@@ -9,7 +10,7 @@ use Rattle.patr_text.specs.declared.symbols.Id.{Id}
 use Rattle.patr_model.proofs.Maps.{some_inj}
 use Rattle.patr_model.specs.Derivation.{RuleVariant, EntryVariant}
 use Rattle.patr_shell.specs.declared.language.Rule.{Rule}
-use Rattle.patr_shell.specs.declared.lexicon.Entry.{Entry}
+use Rattle.patr_lexicon.specs.declared.lexicon.Entry.{Entry}
 use Rattle.patr_shell.specs.Begun.{HasOneVariant}
 use Rattle.patr_shell.specs.Spoken.{rule_categories, rule_variants, entry_of, entry_variants, rules_of, IsEntryHeld}
 use Rattle.patr_shell.specs.Listed.{AreListed}
@@ -37,6 +38,11 @@ module _ (X Y : Type 0) (f : X → Y) (test : ℕ → Y → Bool) (key : X → �
       subst (λ l. AreListed Y test n l M) (sym longer)
       (subst (λ l. AreListed Y test n (map f (take i xs) ++ f x ∷ []) l) (ap (λ k. with_number L (key x) k) long ∙ sym more)
       (listed_more Y test n (map f (take i xs)) (f x) L (key x) below (each x) l))
+
+-- the places in a list of images
+pub places_map : {X Y : Type 0} (f : X → Y) (test : Y → Bool) (i : ℕ) (xs : List X) → places (λ x. test (f x)) i xs ≡ places test i (map f xs)
+places_map f test i [] = refl
+places_map f test i (x ∷ xs) = ap (λ l. cond (test (f x)) (i ∷ l) l) (places_map f test (suc i) xs)
 
 -- what holds of all holds of each
 pub all_get : {X : Type 0} (P : X → Type 0) (xs : List X) (i : ℕ) (d : X) → AllByRecursion P xs → i < length xs → P (get_or xs i d)

@@ -21,8 +21,8 @@ use Rattle.patr_grammar.specs.declared.grammar.Item.{Item}
 use Rattle.patr_grammar.specs.declared.grammar.RuleText.{RuleText}
 use Rattle.patr_grammar.specs.declared.grammar.Grammar.{Grammar}
 use Rattle.patr_shell.specs.declared.language.Rule.{Rule}
-use Rattle.patr_shell.specs.declared.lexicon.Entry.{Entry}
-use Rattle.patr_shell.specs.LexiconReading.{IsEntryOf}
+use Rattle.patr_lexicon.specs.declared.lexicon.Entry.{Entry}
+use Rattle.patr_lexicon.specs.Reading.{AreEntriesOf}
 use Rattle.patr_shell.specs.Spoken.{Spoken, rule_categories, rule_variants, entry_variants, rules_of, IsRuleHeld, IsEntryHeld, AreHeldIn, grounds}
 use Rattle.patr_shell.specs.Loaded.{text_categories, ReadsGrammar, ReadsLexicon}
 use Rattle.patr_shell.specs.Outcome.{Names, IsOpened, HasGrammar, HaveSession}
@@ -79,10 +79,10 @@ module _ (table : List (List ℕ)) where
       let rest : map rule_categories rules ≡ map text_categories gs = cc in
       (subst (λ l. AllByRecursion (λ c. c < length table) l) here (rule_held g r is.0), rules_held rules gs rs rest is.1)
 
-  entries_held : (es : List Entry) (ps : List EntryText) → Each (IsEntryOf table) es ps → AllByRecursion (IsEntryHeld (length table)) es
+  entries_held : (es : List Entry) (ps : List EntryText) → AreEntriesOf table es ps → AllByRecursion (IsEntryHeld (length table)) es
   entries_held [] ps is = tt
   entries_held (e ∷ es) [] is = absurd is
-  entries_held (e ∷ es) (p ∷ ps) is = ((slice_get_within table e.word.0 p.word is.0.1, slice_get_within table e.category.0 p.category is.0.2), entries_held es ps is.1)
+  entries_held (e ∷ es) (p ∷ ps) is = ((slice_get_within table e.word.0 p.word is.0.word, slice_get_within table e.category.0 p.category is.0.category), entries_held es ps is.1)
 
 -- ---- under a numbering
 
@@ -125,14 +125,14 @@ module _ (N : Numbering) (table : List (List ℕ)) (agrees : AgreesWith N table)
   abbrev entry_with : ℕ → ℕ → List EntryVariant
   entry_with w c = record { word = w; category = c; equations = []; chain = [] } ∷ []
 
-  entries_are : (es : List Entry) (ps : List EntryText) → Each (IsEntryOf table) es ps
+  entries_are : (es : List Entry) (ps : List EntryText) → AreEntriesOf table es ps
       → map entry_variants es ≡ map (λ (p : EntryText). record { word = N.number p.word; category = N.number p.category; equations = []; chain = [] } ∷ []) ps
   entries_are [] [] is = refl
   entries_are [] (p ∷ ps) is = absurd is
   entries_are (e ∷ es) [] is = absurd is
   entries_are (e ∷ es) (p ∷ ps) is =
-      ap (λ (w : ℕ). entry_with w e.category.0 ∷ map entry_variants es) (number_is e.word.0 p.word is.0.1)
-      ∙ ap (λ (c : ℕ). entry_with (N.number p.word) c ∷ map entry_variants es) (number_is e.category.0 p.category is.0.2)
+      ap (λ (w : ℕ). entry_with w e.category.0 ∷ map entry_variants es) (number_is e.word.0 p.word is.0.word)
+      ∙ ap (λ (c : ℕ). entry_with (N.number p.word) c ∷ map entry_variants es) (number_is e.category.0 p.category is.0.category)
       ∙ ap (λ (l : List (List EntryVariant)). entry_with (N.number p.word) (N.number p.category) ∷ l) (entries_are es ps is.1)
 
 -- ---- the two files of a run
@@ -154,9 +154,6 @@ module _ (old table : List (List ℕ)) (longer : Extends old table) (grammar : G
     are_few_rules =
         let a = length_maps rule_categories text_categories rules grammar.rules.items same in
         omega (arith, a, g.few, g.short)
-
-    pub are_few_entries : length entries < 4294967296
-    are_few_entries = omega (arith, l.few, l.short)
 
     grounds_are : (N : Numbering) → AgreesWith N table → (spoken : Spoken) → spoken.rules ≡ rules_of rules entries grammar.start → grounds N spoken ≡ plain_grounds N g.stands.0 l.stands.0
     grounds_are N agrees spoken is =

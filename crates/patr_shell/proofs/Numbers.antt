@@ -4,7 +4,7 @@ use Rattle.patr_model.specs.Derivation.{Derivation}
 use Rattle.patr_model.specs.Chart.{IsIn, EachOnce}
 use Rattle.patr_model.proofs.Maps.{some_inj}
 use Rattle.patr_shell.specs.declared.edge.Edge.{Edge}
-use Rattle.patr_shell.specs.Numbered.{places}
+use Rattle.patr_model.specs.Numbered.{places}
 use Rattle.patr_shell.specs.Tasks.{Has}
 
 pub has_last : (xs : List ℕ) (x : ℕ) → Has (xs ++ x ∷ []) x

@@ -12,7 +12,7 @@ use Rattle.patr_model.specs.Built.{built}
 use Rattle.patr_model.specs.GrammarText.{grammar_fault_line}
 use Rattle.patr_model.specs.LexiconText.{lexicon_fault_line}
 use Rattle.patr_grammar.specs.Reading.{fault_of}
-use Rattle.patr_shell.specs.LexiconReading.{fault_of as lexicon_fault_of}
+use Rattle.patr_lexicon.specs.Reading.{fault_of as lexicon_fault_of}
 use Rattle.patr_shell.specs.declared.status.Status.{Status}
 use Rattle.patr_shell.specs.declared.status.Status.TheVariants.{Done, BadWords, BadGrammar, BadLexicon, ReadFault, WriteFault, Memory, InputTooLong}
 use Rattle.patr_shell.specs.declared.status.GrammarTrouble.TheVariants as grammar_trouble

@@ -11,7 +11,7 @@ use Rattle.patr_shell.specs.Charted.{IsEdgeAfter, AreEdges, is_partner, partners
 use Rattle.patr_model.proofs.Maps.{some_inj}
 use Rattle.patr_shell.proofs.Places.{get_cases}
 use Rattle.patr_shell.proofs.Trees.{get_below, get_taken, from_length}
-use Rattle.patr_shell.specs.Numbered.{places}
+use Rattle.patr_model.specs.Numbered.{places}
 use Rattle.patr_shell.specs.Closing.{KindsFit}
 use Rattle.patr_shell.specs.Tasks.{pair, Has, made_by, IsDecided, AreMade, IsTask}
 use Rattle.patr_shell.proofs.Numbers.{Rising, has_last, has_left, has_either, places_rising, in_places, to_places, in_taken, taken_in, one_number}

@@ -5,7 +5,7 @@ use Rattle.patr_model.specs.Derivation.{Rules, RuleVariant, EntryVariant, rule_v
 use Rattle.patr_shell.specs.declared.edge.EdgeKind.TheVariants.{Entry, Rule}
 use Rattle.patr_shell.specs.declared.edge.Edge.{Edge}
 use Rattle.patr_shell.specs.declared.prediction.Mark.{Mark}
-use Rattle.patr_shell.specs.Numbered.{places}
+use Rattle.patr_model.specs.Numbered.{places}
 use Rattle.patr_shell.specs.Spoken.{has_mother, has_word}
 
 -- an entry over the word at i

@@ -6,7 +6,7 @@ use Rattle.patr_shell.specs.declared.edge.EdgeKind.TheVariants.{Entry, Rule}
 use Rattle.patr_shell.specs.declared.edge.Back.{Back}
 use Rattle.patr_shell.specs.declared.edge.Edge.{Edge}
 use Rattle.patr_shell.specs.Edges.{is_passive}
-use Rattle.patr_shell.specs.Numbered.{places}
+use Rattle.patr_model.specs.Numbered.{places}
 
 -- a chart: the number of words of its sentence, and its edges in the order in which they came
 pub record Charted : Type 0 where

@@ -4,7 +4,7 @@ use Rattle.patr_shell.specs.declared.chart.Chart.TheInside.{Inside}
 use Rattle.patr_shell.specs.declared.edge.Edge.{Edge}
 use Rattle.patr_shell.specs.Lists.{Numbers, numbers}
 use Rattle.patr_shell.specs.Charted.{Charted, starts_at, ends_at, partners, AreEdges}
-use Rattle.patr_shell.specs.Numbered.{places}
+use Rattle.patr_model.specs.Numbered.{places}
 
 -- the chart that the fields stand for
 abbrev pub charted : Inside → Charted

@@ -1,21 +1,16 @@
 -- The words of a sentence, by the lexicon.
-use Rattle.std.specs.Prelude.{◌≡◌, ◌⊎◌, ℕ, suc, ◌<◌, List, [], ◌∷◌, ◌++◌, length, map, Some, nat_eq, codes, decimal}
-use Rattle.std.specs.List.{slice_split}
+use Rattle.std.specs.Prelude.{◌≡◌, ◌⊎◌, ℕ, suc, ◌<◌, List, [], ◌∷◌, ◌++◌, length, map, Some, codes, decimal}
 use Rattle.patr_text.specs.declared.symbols.Id.{Id}
 use Rattle.patr_model.specs.Derivation.{Rules, EntryVariant, Derivation, entry_variant}
 use Rattle.patr_model.specs.Chart.{HasMoreThan}
 use Rattle.patr_model.specs.Plain.{plain}
 use Rattle.patr_model.specs.Text.{Look, tree_text}
-use Rattle.patr_model.specs.Session.{Grounds, ListsAll, line, without_empty}
+use Rattle.patr_model.specs.Session.{Grounds, ListsAll, line}
 use Rattle.patr_shell.specs.Spoken.{Spoken, at_limit}
 
 -- an entry has one variant, whose word has a text
 abbrev pub HasWords : Spoken → Type 0
 HasWords s = (e k : ℕ) (v : EntryVariant) → entry_variant s.rules e k ≡ Some v → (k ≡ 0) × (v.word < length s.texts)
-
--- the parts of a text between tabs that are not empty
-abbrev pub between_tabs : List ℕ → List (List ℕ)
-between_tabs text = without_empty (slice_split (λ b. nat_eq b 9) text)
 
 -- the numbers of symbols
 abbrev pub ids : List Id → List ℕ

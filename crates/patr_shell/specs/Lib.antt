@@ -5,14 +5,9 @@ pub mod Closing
 pub mod Edges
 pub mod Kept
 pub mod Known
-pub mod LexiconReading
-pub mod LexiconStates
-pub mod LexiconRecords
-pub mod LexiconParts
 pub mod Listed
 pub mod Lists
 pub mod Loaded
-pub mod Numbered
 pub mod Outcome
 pub mod Pending
 pub mod Predicting

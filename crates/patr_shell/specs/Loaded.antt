@@ -5,9 +5,9 @@ use Rattle.patr_grammar.specs.Reading.{item_seen, StandsFor}
 use Rattle.patr_grammar.specs.declared.grammar.RuleText.{RuleText}
 use Rattle.patr_grammar.specs.declared.grammar.Item.{Item}
 use Rattle.patr_grammar.specs.declared.grammar.Grammar.{Grammar as GrammarText}
-use Rattle.patr_shell.specs.LexiconReading.{StandsFor as StandForEntries}
+use Rattle.patr_lexicon.specs.Reading.{StandsFor as StandForEntries}
 use Rattle.patr_shell.specs.Outcome.{HasBadGrammar, HasBadLexicon}
-use Rattle.patr_shell.specs.declared.lexicon.Entry.{Entry}
+use Rattle.patr_lexicon.specs.declared.lexicon.Entry.{Entry}
 use Rattle.patr_shell.specs.declared.refusal.OpeningFault.{OpeningFault}
 use Rattle.patr_shell.specs.declared.refusal.OpeningFault.TheVariants.{Refused, Read, Memory}
 use Rattle.patr_shell.specs.declared.refusal.Refusal.TheVariants.{Grammar, Lexicon}
@@ -39,7 +39,6 @@ pub record ReadsLexicon (files : Option Files) (name : List ℕ) (table : List (
   pub file : HasFile files name bytes
   pub short : length bytes ≤ 16777216
   pub stands : StandForEntries table bytes entries
-  pub few : length entries ≤ length bytes
 
 -- the file of this name was not read as a lexicon
 abbrev pub IsLexiconFault : Option Files → List ℕ → OpeningFault → Type 0

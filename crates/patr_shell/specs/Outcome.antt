@@ -12,7 +12,7 @@ use Rattle.patr_model.specs.LexiconText.{EntryText, ReadsLexicon, RefusesLexicon
 use Rattle.patr_model.specs.CommandLine.{command_words}
 use Rattle.patr_model.specs.Built.{stage, built}
 use Rattle.patr_grammar.specs.Reading.{fault_of}
-use Rattle.patr_shell.specs.LexiconReading.{fault_of as lexicon_fault_of}
+use Rattle.patr_lexicon.specs.Reading.{fault_of as lexicon_fault_of}
 use Rattle.patr_shell.specs.Spoken.{Spoken, grounds, at_limit}
 use Rattle.patr_shell.specs.Sent.{AppendsFront}
 use Rattle.patr_shell.specs.Answering.{ended_part}

@@ -5,7 +5,7 @@ use Rattle.patr_text.specs.declared.symbols.Id.{Id}
 use Rattle.patr_model.specs.Derivation.{Rules, RuleVariant, EntryVariant}
 use Rattle.patr_model.specs.Session.{Numbering, Grounds, State}
 use Rattle.patr_shell.specs.declared.language.Rule.{Rule}
-use Rattle.patr_shell.specs.declared.lexicon.Entry.{Entry}
+use Rattle.patr_lexicon.specs.declared.lexicon.Entry.{Entry}
 
 -- a grammar and a lexicon as they are held: the texts of symbols by their numbers, and the rules and entries
 pub record Spoken : Type 0 where

@@ -2,7 +2,7 @@
 ghost use Rattle.std.specs.Prelude.{◌≡◌, ℕ, ◌≤◌, length, map, slice_get, Some, IfOk};
 ghost use Rattle.std.specs.List.{AllByRecursion, filter};
 ghost use Rattle.patr_text.specs.declared.symbols.Id.{Id};
-ghost use Rattle.patr_shell.specs.Numbered.{places};
+ghost use Rattle.patr_model.specs.Numbered.{places};
 ghost use Rattle.patr_shell.specs.Charted.{AreEdges, starts_at};
 ghost use Rattle.patr_shell.specs.Closing.{KindFits, KindsFit, IsClosed};
 ghost use Rattle.patr_shell.specs.Whole.{is_whole, whole_at, HasKey, edge_of, AreAll};

@@ -3,7 +3,7 @@ ghost use Rattle.std.specs.Prelude.{◌≡◌, ◌+◌, ◌<◌, ◌≤◌, [], 
 ghost use Rattle.patr_model.specs.Derivation.{key, start, end, size};
 ghost use Rattle.patr_shell.specs.Edges.{item_of};
 ghost use Rattle.patr_shell.specs.Charted.{IsEdgeAfter, AreEdges, partners, starts_at, tree};
-ghost use Rattle.patr_shell.specs.Numbered.{places};
+ghost use Rattle.patr_model.specs.Numbered.{places};
 ghost use Rattle.patr_shell.specs.Pending.{whole_key, weights, AreHeld};
 ghost use Rattle.patr_shell.specs.Lists.{numbers, IsEntered};
 

@@ -2,18 +2,18 @@
 ghost use Rattle.std.specs.Prelude.{◌≡◌, suc, ◌<◌, ◌^◌, List, length, map, Some, slice_get, IfOk, IfSome, IfNone, false};
 ghost use Rattle.patr_text.specs.Texts.{holds};
 ghost use Rattle.patr_model.specs.Table.{IsTable};
-ghost use Rattle.patr_model.specs.Derivation.{RuleVariant, EntryVariant, rule_variant, entry_variant};
+ghost use Rattle.patr_model.specs.Derivation.{RuleVariant, rule_variant, entry_variant};
 ghost use Rattle.std.specs.List.{AllByRecursion};
-ghost use Rattle.patr_shell.specs.Spoken.{rules_of, rule_variants, entry_of, entry_variants, IsRuleHeld, IsEntryHeld, AreHeldIn, HasFewDaughters, has_mother, has_word};
+ghost use Rattle.patr_shell.specs.Spoken.{rules_of, rule_variants, entry_of, IsRuleHeld, AreHeldIn, HasFewDaughters, has_mother, has_word};
 ghost use Rattle.patr_shell.specs.Begun.{HasOneVariant};
 ghost use Rattle.patr_shell.specs.Listed.{AreListed};
 ghost use Rattle.patr_shell.specs.Lists.{numbers};
-ghost use Rattle.patr_shell.specs.Numbered.{places};
+ghost use Rattle.patr_model.specs.Numbered.{places};
 ghost use Rattle.patr_shell.specs.Known.{HasWords};
 
 use crate::Memory;
-use crate::lexicon::Entry;
 use crate::lists::{empty_lists, list_at, put};
+use patr_lexicon::{Entry, Lexicon};
 use patr_text::{Id, Symbols};
 use std::alloc::{AllocError, Global};
 use std::marker::Model;
@@ -30,11 +30,10 @@ pub struct Rule {
 pub struct Language {
     symbols: Symbols,
     rules: Vec<Rule>,
-    entries: Vec<Entry>,
+    lexicon: Lexicon,
     start: Id,
-    // by the number of a symbol, the rules with this mother and the entries of this word
+    // by the number of a symbol, the rules with this mother
     by_mother: Vec<Vec<u32>>,
-    by_word: Vec<Vec<u32>>,
 }
 
 impl Model for Language {
@@ -64,48 +63,30 @@ fn by_mother(alloc: Global, rules: &[Rule], count: usize) -> Result<Vec<Vec<u32>
     Ok(lists)
 }
 
-// By the number of a symbol, the entries of this word.
-fn by_word(alloc: Global, entries: &[Entry], count: usize) -> Result<Vec<Vec<u32>>, Memory>
-    requires held { AllByRecursion (IsEntryHeld count) entries.now }
-    requires few { length entries.now < 2 ^ 32 }
-    ensures { IfOk result (λ lists. AreListed (List EntryVariant) has_word count (map entry_variants entries.now) (numbers lists.items)) }
-{
-    let mut lists = empty_lists(alloc, count)?;
-    for (number, entry) in entries.iter().enumerate() {
-        if !put(&mut lists, entry.word.0 as usize, number as u32) {
-            return Err(AllocError);
-        }
-    }
-    Ok(lists)
-}
-
 impl Language {
-    /// The language of these rules and entries, whose symbols these are.
+    /// The language of these rules and this lexicon, whose symbols these are.
     pub fn build(
         alloc: Global,
         symbols: Symbols,
         rules: Vec<Rule>,
-        entries: Vec<Entry>,
+        lexicon: Lexicon,
         start: Id,
     ) -> Result<Language, Memory>
-        requires held { AreHeldIn (length symbols) rules.items entries.items start }
+        requires held { AreHeldIn (length symbols) rules.items lexicon start }
         requires few_rules { length rules.items < 2 ^ 32 }
-        requires few_entries { length entries.items < 2 ^ 32 }
         requires few_daughters { AllByRecursion HasFewDaughters rules.items }
         ensures texts { IfOk result (λ language. language.texts ≡ symbols) }
         ensures table { IfOk result (λ language. IsTable language.texts) }
-        ensures rules { IfOk result (λ language. language.rules ≡ rules_of rules.items entries.items start) }
+        ensures rules { IfOk result (λ language. language.rules ≡ rules_of rules.items lexicon start) }
     {
         let count = symbols.len() as usize;
         let by_mother = by_mother(alloc, &rules, count)?;
-        let by_word = by_word(alloc, &entries, count)?;
         Ok(Language {
             symbols,
             rules,
-            entries,
+            lexicon,
             start,
             by_mother,
-            by_word,
         })
     }
 
@@ -149,12 +130,12 @@ impl Language {
     }
 
     /// An entry by its number.
-    pub fn entry(&self, entry: u32) -> Entry
+    pub fn entry(&self, entry: u32) -> &Entry
         requires { entry < length self.now.rules.entries }
-        ensures held { (result.word.0 < length self.now.texts) × (result.category.0 < length self.now.texts) }
-        ensures entry { entry_variant self.now.rules entry 0 ≡ Some (entry_of result) }
+        ensures held { (result.now.word.0 < length self.now.texts) × (result.now.category.0 < length self.now.texts) }
+        ensures entry { entry_variant self.now.rules entry 0 ≡ Some (entry_of result.now) }
     {
-        self.entries[entry as usize]
+        &self.lexicon.entries()[entry as usize]
     }
 
     /// The entries of a word, by rising number.
@@ -162,7 +143,7 @@ impl Language {
         requires { word.0 < length self.now.texts }
         ensures { result.now ≡ places (has_word word.0) 0 self.now.rules.entries }
     {
-        list_at(&self.by_word, word.0 as usize)
+        self.lexicon.entries_of(word)
     }
 
     /// The number of a text that is held.

@@ -11,7 +11,6 @@ mod command_line;
 mod edge;
 mod gate;
 mod language;
-mod lexicon;
 mod lists;
 mod loading;
 mod opening;
@@ -30,8 +29,8 @@ mod words;
 pub(crate) use chart::Chart;
 pub use gate::{Gate, OpenGate};
 pub(crate) use language::Language;
-pub use lexicon::LexiconCause;
 pub use patr_grammar::GrammarCause;
+pub use patr_lexicon::LexiconCause;
 pub use running::run;
 pub use status::{GrammarTrouble, LexiconTrouble, Status};
 

@@ -6,11 +6,11 @@ ghost use Rattle.patr_text.specs.Texts.{Extends};
 ghost use Rattle.patr_shell.specs.Outcome.{CannotLoad, is_read_fault};
 ghost use Rattle.patr_shell.specs.Loaded.{IsLoadFault, ReadsGrammar, IsGrammarFault, ReadsLexicon, IsLexiconFault};
 
-use crate::lexicon::{Entry, read_lexicon};
 use crate::refusal::{OpeningFault, Refusal};
 use crate::{GrammarTrouble, LexiconTrouble};
 use patr_grammar::{Grammar, read_grammar};
 use patr_io::{Shelf, ShelfFault};
+use patr_lexicon::{Lexicon, read_lexicon};
 use patr_text::{Fault, Symbols};
 use std::alloc::Global;
 
@@ -70,15 +70,15 @@ pub fn load_grammar<F: Shelf>(
     }
 }
 
-/// The entries of a lexicon's file, whose symbols are held from then on.
+/// The lexicon of a file, whose symbols are held from then on.
 pub fn load_lexicon<F: Shelf>(
     alloc: Global,
     shelf: &mut F,
     name: &str,
     symbols: &mut Symbols,
-) -> Result<Vec<Entry>, OpeningFault>
+) -> Result<Lexicon, OpeningFault>
     requires { length symbols.old + 16777216 < 2 ^ 32 - 1 }
-    ensures lexicon { IfOk result (λ entries. ReadsLexicon (F.files shelf.old) name.now symbols.new entries.items) }
+    ensures lexicon { IfOk result (λ lexicon. ReadsLexicon (F.files shelf.old) name.now symbols.new lexicon) }
     ensures fault { IfErr result (λ fault. IsLexiconFault (F.files shelf.old) name.now fault) }
     ensures extends { Extends symbols.old symbols.new }
     ensures read { IfErr result (λ fault. fault ≡ OpeningFault.Read →
@@ -89,7 +89,7 @@ pub fn load_lexicon<F: Shelf>(
         return Err(OpeningFault::Refused(Refusal::Lexicon(LexiconTrouble::TooLong)));
     };
     match read_lexicon(alloc, symbols, &bytes) {
-        Ok(entries) => Ok(entries),
+        Ok(lexicon) => Ok(lexicon),
         Err(Fault::Memory) => Err(OpeningFault::Memory),
         Err(Fault::Refused(cause)) => Err(OpeningFault::Refused(Refusal::Lexicon(
             LexiconTrouble::Text(cause),

@@ -69,9 +69,9 @@ pub fn open<F: Shelf>(
     };
     let mut symbols = Symbols::new(alloc)?;
     let grammar = load_grammar(alloc, shelf, setup.grammar, &mut symbols)?;
-    let entries = load_lexicon(alloc, shelf, setup.lexicon, &mut symbols)?;
+    let lexicon = load_lexicon(alloc, shelf, setup.lexicon, &mut symbols)?;
     let rules = rules_of(alloc, &grammar)?;
-    let language = Language::build(alloc, symbols, rules, entries, grammar.start)?;
+    let language = Language::build(alloc, symbols, rules, lexicon, grammar.start)?;
     Ok(Opened {
         language,
         limit: setup.limit,

@@ -4,13 +4,13 @@ ghost use Rattle.patr_model.specs.Faults.{at_place};
 ghost use Rattle.patr_model.specs.GrammarText.{grammar_fault_line};
 ghost use Rattle.patr_model.specs.LexiconText.{lexicon_fault_line};
 ghost use Rattle.patr_grammar.specs.Reading.{fault_of};
-ghost use Rattle.patr_shell.specs.LexiconReading.{fault_of as lexicon_fault_of};
+ghost use Rattle.patr_lexicon.specs.Reading.{fault_of as lexicon_fault_of};
 ghost use Rattle.patr_shell.specs.Outcome.{refusal_line, status_of};
 ghost use Rattle.patr_shell.specs.declared.refusal.OpeningFault.TheVariants.{Memory as OutOfMemory};
 
-use crate::lexicon::LexiconCause;
 use crate::{GrammarTrouble, LexiconTrouble, Memory, Status};
 use patr_grammar::{GrammarCause, expected_text};
+use patr_lexicon::LexiconCause;
 use std::alloc::{AllocError, AllocFailed, Global};
 
 const USAGE: &str = "usage: patr GRAMMAR LEXICON [--workers N] [--limit N]\n";
@@ -92,6 +92,12 @@ fn grammar_line(alloc: Global, cause: GrammarCause) -> Result<String, Memory>
         }
         GrammarCause::Expected { line, column, what } => {
             expected_line(alloc, line, column, expected_text(&what))
+        }
+        GrammarCause::NotAConstituent { line, column } => {
+            format!(in alloc; "error: grammar {line}:{column}: not a constituent\n")
+        }
+        GrammarCause::PathTooLong { line, column } => {
+            format!(in alloc; "error: grammar {line}:{column}: path too long\n")
         }
         GrammarCause::TooManySymbols { line, column } => {
             format!(in alloc; "error: grammar {line}:{column}: too many symbols\n")

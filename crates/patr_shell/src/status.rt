@@ -2,8 +2,8 @@
 ghost use Rattle.std.specs.Prelude.{◌≡◌};
 ghost use Rattle.patr_shell.specs.Outcome.{code_of};
 
-use crate::lexicon::LexiconCause;
 use patr_grammar::GrammarCause;
+use patr_lexicon::LexiconCause;
 
 /// Why a grammar is refused.
 #[derive(Clone, Copy, Debug, PartialEq, Eq)]

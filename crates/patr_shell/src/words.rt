@@ -4,7 +4,8 @@ ghost use Rattle.std.specs.List.{AllByRecursion};
 ghost use Rattle.patr_text.specs.declared.symbols.Id.{Id};
 ghost use Rattle.patr_model.specs.Session.{Numbering, AgreesWith, IsKnown, IsFirstUnknown, words_of};
 ghost use Rattle.patr_shell.specs.Spoken.{grounds};
-ghost use Rattle.patr_shell.specs.Known.{ids, between_tabs};
+ghost use Rattle.patr_lexicon.specs.Split.{between_tabs};
+ghost use Rattle.patr_shell.specs.Known.{ids};
 
 use crate::{Language, Memory};
 use patr_text::Id;

@@ -4,7 +4,7 @@ use Rattle.std.specs.List.Sorted.{IsSorted}
 use Rattle.std.proofs.lemmas.List.{length-map}
 use Rattle.std.proofs.lemmas.Result.{IfOk-weaker}
 use Rattle.patr_text.specs.declared.symbols.Id.{Id}
-use Rattle.patr_shell.specs.Numbered.{places}
+use Rattle.patr_model.specs.Numbered.{places}
 use Rattle.patr_shell.specs.Charted.{starts_at}
 use Rattle.patr_shell.specs.Whole.{whole_at, edge_of, AreAll}
 use Rattle.patr_shell.proofs.Ordered.{analysis_cmp}

@@ -8,6 +8,12 @@ returns-in-BadToken c = rw c.in-BadToken.is (search (rules, append_assoc))
 pub returns-in-Expected : goal.returns-in-Expected
 returns-in-Expected c = rw c.in-Expected.is (subst (λ w. IfOk c.expected_line.result (λ text. string_bytes text ≡ at_place (codes "grammar") (record { line = c.in-Expected.line; column = c.in-Expected.column }) (codes "expected " ++ w))) c.expected_text.ensures c.expected_line.ensures)
 
+pub returns-in-NotAConstituent : goal.returns-in-NotAConstituent
+returns-in-NotAConstituent c = rw c.in-NotAConstituent.is (search (rules, append_assoc))
+
+pub returns-in-PathTooLong : goal.returns-in-PathTooLong
+returns-in-PathTooLong c = rw c.in-PathTooLong.is (search (rules, append_assoc))
+
 pub returns-in-TooManySymbols : goal.returns-in-TooManySymbols
 returns-in-TooManySymbols c = rw c.in-TooManySymbols.is (search (rules, append_assoc))
 

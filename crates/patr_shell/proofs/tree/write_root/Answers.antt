@@ -17,9 +17,9 @@ returns-in_ok-push-in-Entry c = λ N agrees.
     let old = string_bytes c.args.out.now in
     let before = string_bytes c.push-in-Entry.new.self in
     let now = string_bytes c.write_symbol-in-Entry.new.out in
-    IfOk-weaker c.write_symbol-in-Entry.result (λ _. now ≡ before ++ printed (N.text c.entry-entry.result.word.0)) (λ _. now ≡ old ++ root_text l g c.args.kind)
+    IfOk-weaker c.write_symbol-in-Entry.result (λ _. now ≡ before ++ printed (N.text c.entry-entry.result.now.word.0)) (λ _. now ≡ old ++ root_text l g c.args.kind)
     (λ _ h. subst (λ k. now ≡ old ++ root_text l g k) (sym c.in-Entry.is)
-    (entry_written l g c.in-Entry.entry (entry_of c.entry-entry.result) c.entry-entry.ensures.entry old (string_bytes c.push.new.self) (string_bytes c.write_symbol.new.out) before now
+    (entry_written l g c.in-Entry.entry (entry_of c.entry-entry.result.now) c.entry-entry.ensures.entry old (string_bytes c.push.new.self) (string_bytes c.write_symbol.new.out) before now
     c.in_ok-push.ensures.bytes (c.in_ok-write_symbol-in-Entry.ensures N agrees) c.in_ok-push-in-Entry.ensures.bytes h)) (c.write_symbol-in-Entry.ensures N agrees)
 
 pub returns-in-Rule : goal.returns-in-Rule

@@ -1,5 +1,5 @@
 use Rattle.std.proofs.Common.{◌≡◌, List, ℕ, map, flat_map, Bor}
-use Rattle.patr_shell.specs.Known.{between_tabs}
+use Rattle.patr_lexicon.specs.Split.{between_tabs}
 use Rattle.patr_shell.proofs.words.words_of.Given as goal
 
 abbrev pub invariant-loop-text : goal.invariant-loop-text

@@ -1,0 +1,9 @@
+pub mod Grown
+pub mod Lines
+pub mod Listed
+pub mod Records
+pub mod Spaced
+pub mod Splits
+pub mod States
+pub mod Steps
+pub mod Trims

@@ -1,0 +1,8 @@
+use Rattle.std.proofs.Common.{◌≡◌, List, ℕ, map, Bor}
+use Rattle.patr_model.specs.Session.{without_empty}
+use Rattle.patr_lexicon.specs.Records.{counted, plus}
+use Rattle.patr_lexicon.specs.Parts.{words_seen}
+use Rattle.patr_lexicon.proofs.words.Words.and_parts.Given as goal
+
+abbrev pub invariant-loop-word : goal.invariant-loop-word
+invariant-loop-word l = words_seen l.words ≡ plus (words_seen l.fn.self) (counted (without_empty (map (λ (w : Bor (List ℕ)). w.now) l.yielded)))

@@ -1,0 +1,65 @@
+-- The lines and pieces of the code, and what they are in the definition of lexicons.
+use Rattle.std.specs.Prelude.{ℕ, ◌+◌, List, [], ◌∷◌, length, Option, Some, None, nat_eq}
+use Rattle.std.specs.Str.{IsCharBoundary}
+use Rattle.std.specs.String.{string_bytes}
+use Rattle.std.specs.Option.{option_map}
+use denote.Ref.{Bor}
+use Rattle.patr_model.specs.declared.field.LineKind.{LineKind}
+use Rattle.patr_model.specs.declared.field.LineKind.TheVariants.{Begins}
+use Rattle.patr_model.specs.Session.{pieces}
+use Rattle.patr_model.specs.Tokens.{Place}
+use Rattle.patr_model.specs.LexiconLines.{Piece}
+use Rattle.patr_lexicon.specs.declared.line.Place as code_place
+use Rattle.patr_lexicon.specs.declared.line.Piece as code_piece
+use Rattle.patr_lexicon.specs.declared.words.Words as code_words
+use Rattle.patr_lexicon.specs.declared.words.Words.TheVariants as code_count
+use Rattle.patr_lexicon.specs.declared.gloss.Gloss as code_gloss
+use Rattle.patr_lexicon.specs.declared.record.Record as code_record
+use Rattle.patr_lexicon.specs.Reading.{place_at}
+use Rattle.patr_lexicon.specs.Records.{Words, Empty, One, Several, Open}
+
+-- the lines of a rest that may be there
+abbrev pub rest_lines : Option (Bor (List ℕ)) → List (List ℕ)
+rest_lines None = []
+rest_lines (Some rest) = pieces (nat_eq 10) rest.now
+
+-- how many bytes a rest has, and the LF before it
+abbrev pub rest_len : Option (Bor (List ℕ)) → ℕ
+rest_len None = 0
+rest_len (Some rest) = 1 + length rest.now
+
+-- a field's text begins where a character does
+abbrev pub IsCut : List ℕ → LineKind → Type 0
+IsCut text (Begins m n) = IsCharBoundary text n
+IsCut text _ = Unit {0}
+
+-- the place so many bytes behind another on its line
+abbrev pub past : ℕ → ℕ → ℕ → Place
+past n k more = place_at n (k + more)
+
+-- a place of the code as one of the definition
+abbrev pub place_seen : code_place.Place → Place
+place_seen p = place_at p.line p.column
+
+-- a piece of the code as one of the definition
+abbrev pub piece_seen : code_piece.Piece → Piece
+piece_seen p = record { place = place_at p.line p.column; text = p.text.now }
+
+-- words of the code, by their texts
+abbrev pub words_seen : code_words.Words → Words
+words_seen code_count.Empty = Empty
+words_seen (code_count.One w) = One w.now
+words_seen code_count.Several = Several
+
+-- the joined text, or else the part
+abbrev pub or_part : List ℕ → List ℕ → List ℕ
+or_part [] part = part
+or_part (b ∷ bs) part = b ∷ bs
+
+-- the text of a gloss
+abbrev pub gloss_seen : code_gloss.Gloss → List ℕ
+gloss_seen g = or_part (string_bytes g.joined) g.part.now
+
+-- a record as far as it is read
+abbrev pub record_seen : code_record.Record → Open
+record_seen r = record { line = r.line; word = words_seen r.word; category = words_seen r.category; gloss = gloss_seen r.gloss; later = option_map place_seen r.later }

@@ -1,0 +1,45 @@
+-- What a lexicon's bytes stand for, by the numbers of a table, and where they stop.
+use Rattle.std.specs.Prelude.{ℕ, List, map}
+use Rattle.patr_model.specs.Tokens.{Place}
+use Rattle.patr_model.specs.Renaming.{Each}
+use Rattle.patr_model.specs.Parsing.{LaterForm}
+use Rattle.patr_model.specs.LexiconText.{EntryText, NoWord, SeveralWords, NoCategory, BadFeatures, BadToken, Fails, LexiconFault, NotText, Misread, ReadsLexicon, RefusesLexicon}
+use Rattle.patr_model.specs.Agreeing.{SameEntryText}
+use Rattle.patr_model.specs.Built.{stage}
+use Rattle.patr_text.specs.declared.fault.Fault.{Fault}
+use Rattle.patr_text.specs.declared.fault.Fault.TheVariants.{Memory, Refused}
+use Rattle.patr_grammar.specs.Reading.{IsText}
+use Rattle.patr_lexicon.specs.declared.lexicon.Entry as code
+use Rattle.patr_lexicon.specs.Seen.{entry_seen}
+use Rattle.patr_lexicon.specs.declared.lexicon.LexiconCause.{LexiconCause}
+use Rattle.patr_lexicon.specs.declared.lexicon.LexiconCause.TheVariants as cause
+
+-- the numbers of the entry are those of this entry's texts in the table
+abbrev pub IsEntryOf : List (List ℕ) → code.Entry → EntryText → Type 0
+IsEntryOf table e t = SameEntryText (IsText table) (entry_seen e) t
+
+-- the entries are these, one by one
+abbrev pub AreEntriesOf : List (List ℕ) → List code.Entry → List EntryText → Type 0
+AreEntriesOf table es ts = Each (SameEntryText (IsText table)) (map entry_seen es) ts
+
+-- the entries are what the bytes stand for
+abbrev pub StandsFor : List (List ℕ) → List ℕ → List code.Entry → Type 0
+StandsFor table bytes es = (ts : List EntryText) × ReadsLexicon stage bytes ts × AreEntriesOf table es ts
+
+-- the place of this line and this column
+abbrev pub place_at : ℕ → ℕ → Place
+place_at n k = record { line = n; column = k }
+
+-- a cause as the fault that it tells of
+abbrev pub fault_of : LexiconCause → LexiconFault
+fault_of (cause.NotUtf8 at) = NotText at
+fault_of (cause.BadToken n k) = Misread (BadToken (place_at n k))
+fault_of (cause.NoWord n) = Misread (Fails (NoWord n))
+fault_of (cause.SeveralWords n) = Misread (Fails (SeveralWords n))
+fault_of (cause.NoCategory n) = Misread (Fails (NoCategory n))
+fault_of (cause.LaterForm n k) = Misread (Fails (BadFeatures LaterForm (place_at n k)))
+
+-- the bytes stand for no entries for this cause, or memory was short
+abbrev pub IsRefusedFor : List ℕ → Fault LexiconCause → Type 0
+IsRefusedFor bytes Memory = Unit {0}
+IsRefusedFor bytes (Refused c) = RefusesLexicon stage bytes (fault_of c)

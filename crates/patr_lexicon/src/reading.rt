@@ -1,0 +1,120 @@
+//! The reader of a lexicon.
+//!
+//! A first pass over the lines looks for bad characters. A second one goes from line to line with a state: the
+//! record that has begun, as far as it matters, and the marker of its last field.
+ghost use Rattle.std.specs.Prelude.{◌≡◌, ◌+◌, ◌-◌, ◌^◌, ◌<◌, ◌≤◌, List, length, Result, Ok, IfOk, IfErr};
+ghost use Rattle.patr_model.specs.LexiconLines.{lines, fields_of};
+ghost use Rattle.patr_model.specs.LexiconText.{EntryText as Text, EntryFault, read_fields};
+ghost use Rattle.patr_model.specs.Built.{stage};
+ghost use Rattle.patr_text.specs.Texts.{Extends};
+ghost use Rattle.patr_lexicon.specs.Reading.{StandsFor, IsRefusedFor, AreEntriesOf};
+ghost use Rattle.patr_lexicon.specs.States.{FailsFor, ended_before, most_texts_of, IsKept};
+
+use crate::lexicon::{Entry, Lexicon, LexiconCause};
+use crate::line::{bad_token, cut_line};
+use crate::record::Record;
+use crate::state::{State, Step};
+use patr_text::{Fault, Symbols};
+use std::alloc::Global;
+
+/// What the bytes of a lexicon stand for, with the numbers that the table gives to its texts.
+///
+/// It is refused for the first of these that there is: it is not UTF-8; a bad character; text before the
+/// first `\w`; the first record that stands for no entry, by its word, its category or its features. A
+/// record with features is refused, since those are not built yet. Other failures are for want of memory.
+/// The table keeps the texts that it holds, whatever the answer.
+pub fn read_lexicon(
+    alloc: Global,
+    symbols: &mut Symbols,
+    bytes: &[u8],
+) -> Result<Lexicon, Fault<LexiconCause>>
+    requires { length symbols.old + length bytes.now < 2 ^ 32 - 1 }
+    ensures reads { IfOk result (λ lexicon. StandsFor symbols.new bytes.now lexicon) }
+    ensures refused { IfErr result (λ fault. IsRefusedFor bytes.now fault) }
+    ensures extends { Extends symbols.old symbols.new }
+    ensures growth { length symbols.new ≤ length symbols.old + length bytes.now }
+    ensures few { IfOk result (λ lexicon. length lexicon ≤ length bytes.now) }
+{
+    match std::str::from_utf8(bytes) {
+        Ok(text) => read_text(alloc, symbols, text),
+        Err(error) => Err(Fault::Refused(LexiconCause::NotUtf8 {
+            at: error.valid_up_to() as u64,
+        })),
+    }
+}
+
+/// What a whole text stands for.
+fn read_text(
+    alloc: Global,
+    symbols: &mut Symbols,
+    text: &str,
+) -> Result<Lexicon, Fault<LexiconCause>>
+    requires { length symbols.old + length text.now < 2 ^ 32 - 1 }
+    ensures reads { IfOk result (λ lexicon. StandsFor symbols.new text.now lexicon) }
+    ensures refused { IfErr result (λ fault. IsRefusedFor text.now fault) }
+    ensures extends { Extends symbols.old symbols.new }
+    ensures growth { length symbols.new ≤ length symbols.old + length text.now }
+    ensures few { IfOk result (λ lexicon. length lexicon ≤ length text.now) }
+{
+    if let Some(place) = bad_token(text) {
+        return Err(Fault::Refused(LexiconCause::BadToken {
+            line: place.line,
+            column: place.column,
+        }));
+    }
+    let entries = read_records(alloc, symbols, text)?;
+    let lexicon = Lexicon::new(alloc, entries)?;
+    Ok(lexicon)
+}
+
+/// The entries of a text without bad characters.
+fn read_records(
+    alloc: Global,
+    symbols: &mut Symbols,
+    text: &str,
+) -> Result<Vec<Entry>, Fault<LexiconCause>>
+    requires { length symbols.old + length text.now < 2 ^ 32 - 1 }
+    ensures reads { IfOk result (λ entries. (texts : List Text) × (read_fields stage (fields_of (lines text.now)) ≡ Ok texts) × AreEntriesOf symbols.new entries.items texts) }
+    ensures refused { IfErr result (λ fault. FailsFor (read_fields stage (fields_of (lines text.now))) fault) }
+    ensures extends { Extends symbols.old symbols.new }
+    ensures growth { length symbols.new ≤ length symbols.old + length text.now }
+    ensures few { IfOk result (λ entries. length entries.items ≤ length text.now) }
+{
+    let mut entries = Vec::new(alloc);
+    let mut state = State::Start;
+    let mut rest = text;
+    let mut number = 1;
+    'lines: loop {
+        let (line, behind) = cut_line(rest);
+        let Step { state: next, ended } = state.line(alloc, number, line)?;
+        keep(alloc, &mut entries, symbols, ended)?;
+        let Some(behind) = behind else {
+            keep(alloc, &mut entries, symbols, next.record())?;
+            return Ok(entries);
+        };
+        state = next;
+        rest = behind;
+        number += 1;
+    }
+}
+
+/// Puts the entry of a record that has ended behind the others.
+fn keep(
+    alloc: Global,
+    entries: &mut Vec<Entry>,
+    symbols: &mut Symbols,
+    ended: Option<Record<'_>>,
+) -> Result<(), Fault<LexiconCause>>
+    requires { length symbols.old + most_texts_of ended < 2 ^ 32 }
+    ensures kept { IfOk result (λ _. IsKept symbols.new entries.old.items entries.new.items ended.entry) }
+    ensures refused { IfErr result (λ fault. (rest : Result (List Text) EntryFault) → FailsFor (ended_before ended.entry rest) fault) }
+    ensures extends { Extends symbols.old symbols.new }
+    ensures growth { length symbols.new ≤ length symbols.old + most_texts_of ended.entry }
+{
+    let Some(record) = ended else {
+        return Ok(());
+    };
+    let entry = record.entry(alloc, symbols)?;
+    entries.push(entry)?;
+    Ok(())
+}

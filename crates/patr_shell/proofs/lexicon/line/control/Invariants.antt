@@ -1,7 +1,0 @@
-use Rattle.std.proofs.Common.{◌≡◌, ◌+◌, ℕ, drop}
-use Rattle.patr_model.specs.LexiconLines.{control}
-use Rattle.patr_shell.specs.LexiconReading.{place_at}
-use Rattle.patr_shell.proofs.lexicon.line.control.Given as goal
-
-abbrev pub invariant-loop-place : goal.invariant-loop-place
-invariant-loop-place l = (n k : ℕ) → control l.comments (place_at n k) l.text ≡ control l.comments (place_at n (k + l.place)) (drop l.place l.text)

@@ -1,8 +1,0 @@
-use Rattle.std.proofs.Common.{◌≡◌, List, ℕ, map, flat_map, Bor}
-use Rattle.patr_shell.specs.Known.{between_tabs}
-use Rattle.patr_shell.specs.LexiconRecords.{counted, plus}
-use Rattle.patr_shell.specs.LexiconParts.{words_seen}
-use Rattle.patr_shell.proofs.lexicon.words.Words.and_words.Given as goal
-
-abbrev pub invariant-loop-part : goal.invariant-loop-part
-invariant-loop-part l = words_seen l.words ≡ plus (words_seen l.fn.self) (counted (flat_map between_tabs (map (λ (w : Bor (List ℕ)). w.now) l.yielded)))
