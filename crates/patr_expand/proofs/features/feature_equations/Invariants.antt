@@ -1,0 +1,10 @@
+use Rattle.std.proofs.Common.{◌≡◌, ◌++◌, [], ◌∷◌, drop, map, filter_map, length, ◌+◌, ◌<◌}
+use Rattle.std.specs.Option.{option_map}
+use Rattle.patr_model.specs.Build as model
+use Rattle.patr_model.specs.Grammar as written
+use Rattle.patr_grammar.specs.Reading.{path_seen, term_seen, element_seen, item_seen, symbol_seen}
+use Rattle.patr_expand.specs.Seen.{number, cat, symbols_seen, path_at, term_at, equation_at, equations_at}
+use Rattle.patr_expand.proofs.features.feature_equations.Given as goal
+
+abbrev pub invariant-loop-element : goal.invariant-loop-element
+invariant-loop-element l = equations_at l.equations.items ++ map (λ e. model.feature_equation number (element_seen e)) (drop l.element-index l.body) ≡ map (λ e. model.feature_equation number (element_seen e)) l.body

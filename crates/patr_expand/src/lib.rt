@@ -1,0 +1,12 @@
+//! The variants of rules and of entries.
+#![tactic(auto)]
+
+mod cause;
+mod equation;
+mod features;
+mod rule;
+
+pub use cause::ExpandCause;
+pub use equation::{Equation, SlotPath, Term};
+pub use features::expand_features;
+pub use rule::{RuleVariant, expand_rule};

@@ -1,0 +1,211 @@
+//! The variants of a rule.
+ghost use Rattle.std.specs.Prelude.{◌≡◌, ◌<◌, ◌^◌, ◌++◌, ◌∷◌, None, Some, IfOk, IfErr, length, map, slice_get, filter_map};
+ghost use Rattle.std.specs.Option.{option_map};
+ghost use Rattle.patr_model.specs.Build as model;
+ghost use Rattle.patr_model.specs.Build.{rule_fault};
+ghost use Rattle.patr_model.specs.Grammar as written;
+ghost use Rattle.patr_grammar.specs.declared.grammar.RuleText as code;
+ghost use Rattle.patr_grammar.specs.Reading.{path_seen, term_seen, element_seen, rule_seen, symbol_seen, item_seen};
+ghost use Rattle.patr_expand.specs.Seen.{number, cat, symbols_seen, path_at, term_at, equation_at, equations_at, variant_at, variants_at, AreNumbered, IsRefusedBy};
+ghost use Rattle.patr_expand.specs.Expanded.{IsOnly, IsExpanded};
+
+use crate::cause::{ExpandCause, too_many};
+use crate::equation::{Equation, SlotPath, Term};
+use patr_grammar::{Element, Grammar, Item, PathText, RuleText, SymbolText, TermText};
+use patr_text::{Fault, Id, Memory};
+use std::alloc::{AllocError, Global};
+
+/// The number of the attribute `cat`.
+const CAT: Id = Id(33);
+
+/// A variant of a rule.
+#[derive(Debug, Drop)]
+pub struct RuleVariant {
+    /// The rule's number in the grammar, and the variant's in the rule, both from 0.
+    pub rule: u32,
+    pub variant: u32,
+    /// Its constituents, the mother first.
+    pub symbols: Vec<SymbolText>,
+    /// The equations of the constituents' categories, and then the written ones that name no symbol that is left out.
+    pub equations: Vec<Equation>,
+}
+
+/// The slot of the first constituent with this symbol.
+fn slot_of(symbols: &[SymbolText], symbol: Id) -> Option<u32>
+    requires few { length symbols.now < 2 ^ 32 }
+    ensures { result ≡ written.slot_of (symbols_seen symbols.now) symbol.0 }
+{
+    for (slot, other) in symbols.iter().enumerate() {
+        if other.symbol == symbol {
+            return Some(slot as u32);
+        }
+    }
+    None
+}
+
+/// The path from the slot of its constituent; none where there is no such constituent. A path that names none begins at
+/// this mother.
+fn placed_path(
+    alloc: Global,
+    symbols: &[SymbolText],
+    mother: Id,
+    path: &PathText,
+) -> Result<Option<SlotPath>, Memory>
+    requires few { length symbols.now < 2 ^ 32 }
+    ensures { IfOk result (λ found. option_map path_at found ≡ written.placed_path (symbols_seen symbols.now) (model.path_of number mother (path_seen path.now))) }
+{
+    let head = match path.head {
+        Some(head) => head,
+        None => mother,
+    };
+    let Some(slot) = slot_of(symbols, head) else {
+        return Ok(None);
+    };
+    let path = path.attributes.to_vec(alloc)?;
+    Ok(Some(SlotPath { slot, path }))
+}
+
+/// The right side of an equation at the slots; none where it names a symbol that is left out.
+fn placed_term(
+    alloc: Global,
+    symbols: &[SymbolText],
+    mother: Id,
+    term: &TermText,
+) -> Result<Option<Term>, Memory>
+    requires few { length symbols.now < 2 ^ 32 }
+    ensures { IfOk result (λ found. option_map term_at found ≡ written.placed_term (symbols_seen symbols.now) (model.term_of number mother (term_seen term.now))) }
+{
+    match term {
+        TermText::Atom(atom) => Ok(Some(Term::Atom(*atom))),
+        TermText::Path(path) => match placed_path(alloc, symbols, mother, path)? {
+            Some(path) => Ok(Some(Term::Path(path))),
+            None => Ok(None),
+        },
+    }
+}
+
+/// The equation at the slots; none where it names a symbol that is left out.
+fn placed_equation(
+    alloc: Global,
+    symbols: &[SymbolText],
+    mother: Id,
+    element: &Element,
+) -> Result<Option<Equation>, Memory>
+    requires few { length symbols.now < 2 ^ 32 }
+    ensures { IfOk result (λ found. option_map equation_at found ≡ written.placed_equation (symbols_seen symbols.now) (model.equation_of number mother (element_seen element.now))) }
+{
+    let Element::Equation(equation) = element;
+    let Some(left) = placed_path(alloc, symbols, mother, &equation.left)? else {
+        return Ok(None);
+    };
+    let Some(right) = placed_term(alloc, symbols, mother, &equation.right)? else {
+        return Ok(None);
+    };
+    Ok(Some(Equation { left, right }))
+}
+
+/// Puts the equations of the constituents' categories behind others.
+fn push_categories(
+    alloc: Global,
+    symbols: &[SymbolText],
+    equations: &mut Vec<Equation>,
+) -> Result<(), Memory>
+    requires few { length symbols.now < 2 ^ 32 }
+    ensures { IfOk result (λ _. equations_at equations.new.items ≡ equations_at equations.old.items ++ written.category_equations cat 0 (symbols_seen symbols.now)) }
+{
+    for (slot, symbol) in symbols.iter().enumerate() {
+        let left = SlotPath {
+            slot: slot as u32,
+            path: vec![in alloc; CAT]?,
+        };
+        let right = Term::Atom(symbol.category);
+        equations.push(Equation { left, right })?;
+    }
+    Ok(())
+}
+
+/// Puts the written equations that name no symbol that is left out behind others.
+fn push_written(
+    alloc: Global,
+    symbols: &[SymbolText],
+    mother: Id,
+    elements: &[Element],
+    equations: &mut Vec<Equation>,
+) -> Result<(), Memory>
+    requires few { length symbols.now < 2 ^ 32 }
+    ensures { IfOk result (λ _. equations_at equations.new.items ≡ equations_at equations.old.items ++ filter_map (written.placed_equation (symbols_seen symbols.now)) (map (λ e. model.equation_of number mother (element_seen e)) elements.now)) }
+{
+    for element in elements {
+        if let Some(equation) = placed_equation(alloc, symbols, mother, element)? {
+            equations.push(equation)?;
+        }
+    }
+    Ok(())
+}
+
+/// The constituents of a rule, the mother first.
+fn constituents(alloc: Global, rule: &RuleText) -> Result<Vec<SymbolText>, Memory>
+    ensures { IfOk result (λ symbols. symbols_seen symbols.items ≡ map (λ x. model.symbol_of number x) (symbol_seen rule.now.mother ∷ map item_seen rule.now.right.items)) }
+{
+    let mut symbols = vec![in alloc; rule.mother]?;
+    for item in &rule.right {
+        let Item::Symbol(symbol) = item;
+        symbols.push(*symbol)?;
+    }
+    Ok(symbols)
+}
+
+/// The one variant of a rule that has no choices.
+fn only_variant(alloc: Global, rule: &RuleText, number: u32) -> Result<RuleVariant, Memory>
+    ensures { IfOk result (λ variant. IsOnly number rule.now variant) }
+{
+    let symbols = constituents(alloc, rule)?;
+    if symbols.len() > u32::MAX as usize {
+        return Err(AllocError);
+    }
+    let mut equations = Vec::new(alloc);
+    push_categories(alloc, &symbols, &mut equations)?;
+    push_written(
+        alloc,
+        &symbols,
+        rule.mother.symbol,
+        &rule.equations,
+        &mut equations,
+    )?;
+    Ok(RuleVariant {
+        rule: number,
+        variant: 0,
+        symbols,
+        equations,
+    })
+}
+
+/// The variants of a rule.
+fn expand(
+    alloc: Global,
+    rule: &RuleText,
+    number: u32,
+) -> Result<Vec<RuleVariant>, Fault<ExpandCause>>
+    ensures expanded { IfOk result (λ variants. IsExpanded number rule.now variants.items) }
+    ensures refused { IfErr result (λ fault. IsRefusedBy (rule_fault (rule_seen rule.now)) fault) }
+{
+    if let Some(cause) = too_many(&rule.equations, rule.line) {
+        return Err(Fault::Refused(cause));
+    }
+    let variant = only_variant(alloc, rule, number)?;
+    Ok(vec![in alloc; variant]?)
+}
+
+/// The variants of the rule with this number: those of its right side change slowest. It is refused where a variant has
+/// more than 1,024 written equations, those that name a symbol that is left out among them.
+pub fn expand_rule(
+    alloc: Global,
+    grammar: &Grammar,
+    rule: u32,
+) -> Result<Vec<RuleVariant>, Fault<ExpandCause>>
+    requires { rule < length grammar.now.rules.items }
+    ensures expanded { (r : code.RuleText) → slice_get grammar.now.rules.items rule ≡ Some r → IfOk result (λ variants. IsExpanded rule r variants.items) }
+    ensures refused { (r : code.RuleText) → slice_get grammar.now.rules.items rule ≡ Some r → IfErr result (λ fault. IsRefusedBy (rule_fault (rule_seen r)) fault) }
+{
+    expand(alloc, &grammar.rules[rule as usize], rule)
+}
