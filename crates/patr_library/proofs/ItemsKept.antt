@@ -1,0 +1,219 @@
+-- The least value of a block where the block stands in an arena, and what is reached from it.
+use Rattle.std.proofs.Common.{◌≡◌, inl, inr, ℕ, zero, suc, ◌+◌, ◌<◌, ◌≤◌, Bool, true, false, cond, nat_eq, eqb-true, eq-eqb, List, [], ◌∷◌, length, length-append, get_or, Some, refl, sym, ap, ◌∙◌, arith, subst}
+use Rattle.std.specs.List.{sum_by}
+use Rattle.std.proofs.lemmas.List.{length-map, get_or-append-add}
+use Rattle.std.proofs.lemmas.List.Sums.{sum_by-cons}
+use Rattle.patr_model.specs.Structure.{Value, Atom, Node, Structure, along, arc, at}
+use Rattle.patr_model.specs.Subsumption.{Same}
+use Rattle.patr_model.specs.Equation.{Equation}
+use Rattle.patr_model.specs.Variants.{variant, RuleAt, IsLeastOf, AreWithin}
+use Rattle.patr_model.proofs.Maps.{some_inj, and_then_some}
+use Rattle.patr_marks.specs.Machine.{IsIn, NoRepeats, own, total}
+use Rattle.patr_marks.proofs.Room.{total_same, total_change}
+use Rattle.patr_marks.proofs.Bounds.{stack_room}
+use Rattle.patr_unify.specs.Deciding.{Counts}
+use Rattle.patr_arena.specs.declared.value.Ref.{Ref}
+use Rattle.patr_arena.specs.declared.value.Ref.TheVariants as ref
+use Rattle.patr_arena.specs.declared.value.Feature.{Feature}
+use Rattle.patr_arena.specs.Shown.{Shown, IsShown, IsHeld, number_of, ref_of}
+use Rattle.patr_arena.specs.Blocks.{with_block}
+use Rattle.patr_arena.proofs.Showing.{held_below, still_held, same_number, block_extends, new_number}
+use Rattle.patr_library.specs.Own.{own_arcs, own_nodes, own_value, IsOwn, AllOwn, IsOwnBlock, IsPlacedAt, shift, shifted}
+use Rattle.patr_library.specs.Solved.{IsLeastAt}
+use Rattle.patr_library.specs.Stored.{Bounds}
+use Rattle.patr_library.specs.Built.{HasBlock}
+use Rattle.patr_library.proofs.Corresponding.{own_get}
+use Rattle.patr_library.proofs.Owned.{held_anywhere}
+use Rattle.patr_library.proofs.Placed.{placed_same, placed_new, placed_longer}
+use Rattle.patr_library.proofs.Steps.{same_least}
+
+-- ---- sums over lists without repeats
+
+zeroed : (ℕ → ℕ) → ℕ → ℕ → ℕ
+zeroed f x k = cond (nat_eq k x) 0 (f k)
+
+zeroed_other : (f : ℕ → ℕ) (x k : ℕ) → (k ≡ x → ⊥) → zeroed f x k ≡ f k
+unfolding zeroed
+zeroed_other f x k other = go (nat_eq k x) refl
+  where
+    go : (b : Bool) → nat_eq k x ≡ b → cond b 0 (f k) ≡ f k
+    go true e = absurd (other (eqb-true k x e))
+    go false e = refl
+
+zeroed_same : (f : ℕ → ℕ) (x : ℕ) → zeroed f x x ≡ 0
+unfolding zeroed
+zeroed_same f x = ap (λ b. cond b 0 (f x)) (eq-eqb x x refl)
+
+-- a list without repeats weighs no more than one that has all of it
+weighs : (f : ℕ → ℕ) (xs ys : List ℕ) → NoRepeats xs → NoRepeats ys → ((k : ℕ) → IsIn xs k → IsIn ys k) → total f xs ≤ total f ys
+weighs f [] ys n m h = omega arith
+weighs f (x ∷ xs) ys n m h =
+    let g = zeroed f x in
+    let change : total g ys + f x ≡ total f ys + g x = total_change g f ys x m (h x (inl refl)) (λ k other. zeroed_other f x k other) in
+    let none : g x ≡ 0 = zeroed_same f x in
+    let same : total g xs ≡ total f xs = total_same g f xs (λ k i. zeroed_other f x k (λ e. n.0 (subst (IsIn xs) e i))) in
+    let rest : total g xs ≤ total g ys = weighs g xs ys n.1 m (λ k i. h k (inr i)) in
+    omega (arith, change, none, same, rest)
+
+-- so many numbers, from p on
+range : ℕ → ℕ → List ℕ
+range p zero = []
+range p (suc m) = p ∷ range (suc p) m
+
+range_above : (p m k : ℕ) → IsIn (range p m) k → p ≤ k
+unfolding range
+range_above p zero k h = absurd h
+range_above p (suc m) k (inl e) = omega (arith, e)
+range_above p (suc m) k (inr h) = let r = range_above (suc p) m k h in omega (arith, r)
+
+range_once : (p m : ℕ) → NoRepeats (range p m)
+unfolding range
+range_once p zero = tt
+range_once p (suc m) = (λ h. let r = range_above (suc p) m p h in absurd (omega (arith, r)), range_once (suc p) m)
+
+range_has : (p m i : ℕ) → i < m → IsIn (range p m) (p + i)
+unfolding range
+range_has p zero i h = absurd (omega (arith, h))
+range_has p (suc m) zero h = inl (omega arith)
+range_has p (suc m) (suc i) h = inr (subst (IsIn (range (suc p) m)) (let e : suc p + i ≡ p + suc i = omega arith in e) (range_has (suc p) m i (omega (arith, h))))
+
+range_long : (p m : ℕ) → length (range p m) ≡ m
+unfolding range
+range_long p zero = refl
+range_long p (suc m) = ap (λ n. suc n) (range_long (suc p) m)
+
+range_weight : (f : ℕ → ℕ) (p : ℕ) (nodes : List (List Feature)) → ((k : ℕ) → k < length nodes → f (p + k) ≡ length (get_or nodes k [])) → total f (range p (length nodes)) ≡ sum_by length nodes
+unfolding range
+range_weight f p [] h = refl
+range_weight f p (fs ∷ nodes) h =
+    let here : f p ≡ length fs = ap f (let e : p ≡ p + 0 = omega arith in e) ∙ h 0 (omega arith) in
+    let rest : total f (range (suc p) (length nodes)) ≡ sum_by length nodes = range_weight f (suc p) nodes (λ k l. ap f (let e : suc p + k ≡ p + suc k = omega arith in e) ∙ h (suc k) (omega (arith, l))) in
+    let whole : sum_by length (fs ∷ nodes) ≡ length fs + sum_by length nodes = sum_by-cons length fs nodes in
+    omega (arith, here, rest, whole)
+
+-- ---- what is reached from a block's node
+
+module _ (S : Structure) (p : ℕ) (nodes : List (List Feature)) (alone : IsOwnBlock nodes) (placed : IsPlacedAt S p nodes) where
+  -- an atom, or a node of the block
+  abbrev Inside : Value → Type 0
+  Inside (Atom c) = Unit {0}
+  Inside (Node n) = (i : ℕ) × (n ≡ p + i) × (i < length nodes)
+
+  inside_along : (n : ℕ) → n ≤ length nodes → (fs : List Feature) → AllOwn n fs → (a : ℕ) (x : Value) → along (shifted p fs) a ≡ Some x → Inside x
+  inside_along n l [] h a x e = cc
+  inside_along n l (f ∷ fs) h a x e = go (nat_eq f.attribute.0 a) (inside_along n l fs h.1 a x) e
+    where
+      there : (r : Ref) → IsOwn n r → Inside (shift p r)
+      there (ref.Atom c) k = tt
+      there (ref.Old at) k = absurd k
+      there (ref.New j) k = (j, refl, omega (arith, k, l))
+
+      go : (b : Bool) → (along (shifted p fs) a ≡ Some x → Inside x) → cond b (Some (shift p f.to)) (along (shifted p fs) a) ≡ Some x → Inside x
+      go true rest k = subst Inside (some_inj (shift p f.to) x k) (there f.to h.0)
+      go false rest k = rest k
+
+  inside_arc : (x : Value) → Inside x → (a : ℕ) (y : Value) → arc S x a ≡ Some y → Inside y
+  inside_arc (Atom c) h a y e = cc
+  inside_arc (Node n) h a y e =
+      inside_along h.0 (omega (arith, h.2)) (get_or nodes h.0 []) (alone.own h.0) a y
+      (ap (λ es. along es a) (sym (placed.each h.0 h.2)) ∙ (ap (λ j. along (get_or S j []) a) (sym h.1) ∙ e))
+
+  inside_at : (q : List ℕ) (x : Value) → Inside x → (y : Value) → at S x q ≡ Some y → Inside y
+  inside_at [] x h y e = subst Inside (some_inj x y e) h
+  inside_at (a ∷ q) x h y e =
+      let s = and_then_some (arc S x a) (λ z. at S z q) y e in
+      inside_at q s.0 (inside_arc x h a s.0 s.1) y s.2
+
+  -- no more nodes are reached than the block has, nor more arcs
+  placed_bounds : (x : Value) → Inside x → (n a : ℕ) → Counts S x n a → (n ≤ length nodes) × (a ≤ sum_by length nodes)
+  placed_bounds x h n a c =
+      let m = length nodes in
+      let f : ℕ → ℕ = λ k. length (own S k) in
+      let members : (k : ℕ) → IsIn c.list k → IsIn (range p m) k =
+      λ k i. let r = c.is.reached k i in let s = inside_at r.0 x h (Node k) r.1 in subst (IsIn (range p m)) (sym s.1) (range_has p m s.0 s.2) in
+      let long = stack_room c.list (range p m) c.is.once members in
+      let size = range_long p m in
+      let weight = weighs f c.list (range p m) c.is.once (range_once p m) members in
+      let whole : total f (range p m) ≡ sum_by length nodes = range_weight f p nodes (λ k h. ap length (placed.each k h) ∙ length-map (get_or nodes k []) (λ g. record { attribute = g.attribute.0; to = shift p g.to })) in
+      let count = c.nodes_are in
+      let arcs = c.arcs_are in
+      (omega (arith, long, size, count), omega (arith, weight, whole, arcs))
+
+  own_inside : (r : Ref) → IsOwn (length nodes) r → Inside (shift p r)
+  own_inside (ref.Atom c) h = tt
+  own_inside (ref.Old at) h = absurd h
+  own_inside (ref.New k) h = (k, refl, h)
+
+  -- a value of the block, where it stands
+  moved : Value → Value
+  moved (Atom c) = Atom c
+  moved (Node k) = Node (p + k)
+
+  moved_is : (n : ℕ) (r : Ref) → IsOwn n r → shift p r ≡ moved (own_value r)
+  unfolding moved
+  moved_is n (ref.Atom c) h = refl
+  moved_is n (ref.Old at) h = absurd h
+  moved_is n (ref.New k) h = refl
+
+  moved_along : (n : ℕ) (fs : List Feature) → AllOwn n fs → (a : ℕ) (x : Value) → along (own_arcs fs) a ≡ Some x → along (shifted p fs) a ≡ Some (moved x)
+  moved_along n [] h a x e = cc
+  moved_along n (f ∷ fs) h a x e = go (nat_eq f.attribute.0 a) (moved_along n fs h.1 a x) e
+    where
+      go : (b : Bool) → (along (own_arcs fs) a ≡ Some x → along (shifted p fs) a ≡ Some (moved x)) → cond b (Some (own_value f.to)) (along (own_arcs fs) a) ≡ Some x → cond b (Some (shift p f.to)) (along (shifted p fs) a) ≡ Some (moved x)
+      go true rest k = ap (λ y. Some y) (moved_is n f.to h.0) ∙ ap (λ y. Some (moved y)) (some_inj (own_value f.to) x k)
+      go false rest k = rest k
+
+  -- its arcs lead where they do in the block
+  placed_arc : (i : ℕ) → i < length nodes → (a : ℕ) (r : Ref) → IsOwn (length nodes) r → arc (own_nodes nodes) (Node i) a ≡ Some (own_value r) → arc S (Node (p + i)) a ≡ Some (shift p r)
+  placed_arc i l a r h e =
+      ap (λ es. along es a) (placed.each i l)
+      ∙ (moved_along i (get_or nodes i []) (alone.own i) a (own_value r) (ap (λ es. along es a) (sym (own_get nodes i)) ∙ e) ∙ ap (λ y. Some y) (sym (moved_is (length nodes) r h)))
+
+-- ---- a block of an arena
+
+module _ (v : Shown) (s : IsShown v) (b : ℕ) (nodes : List (List Feature)) (has : HasBlock v b nodes) (alone : IsOwnBlock nodes) where
+  abbrev place : ℕ
+  place = length has.before.structure
+
+  pub block_held : (o : ℕ) → o < length nodes → IsHeld v b o
+  block_held o below =
+      let w = with_block has.before nodes in
+      let size : get_or w.sizes (length has.before.sizes) 0 ≡ length nodes = ap (λ k. get_or w.sizes k 0) (let e : length has.before.sizes ≡ length has.before.sizes + 0 = omega arith in e) ∙ get_or-append-add has.before.sizes (length nodes ∷ []) 0 0 in
+      subst (λ c. IsHeld v c o) has.number (still_held w v has.extends (length has.before.sizes) o (omega (arith, size, below)))
+
+  block_number : (o : ℕ) → number_of v b o ≡ place + o
+  block_number o =
+      let w = with_block has.before nodes in
+      let old = held_anywhere has.before nodes alone in
+      ap (λ c. number_of v c o) (sym has.number)
+      ∙ (same_number w v has.extends (length has.before.sizes) o (omega (arith, length-append has.before.sizes (length nodes ∷ [])))
+      ∙ (same_number has.before w (block_extends has.before has.shown nodes alone.block old) (length has.before.sizes) o (omega arith)
+      ∙ new_number has.before has.shown nodes alone.block old o))
+
+  block_placed : IsPlacedAt v.structure place nodes
+  block_placed =
+      let w = with_block has.before nodes in
+      subst (λ S. IsPlacedAt S place nodes) (sym has.extends.structure.1) (placed_longer w.structure has.extends.structure.0 place nodes (placed_new has.before has.shown nodes alone))
+
+  block_value : (r : Ref) → IsOwn (length nodes) r → ref_of v b r ≡ shift place r
+  block_value (ref.Atom c) h = refl
+  block_value (ref.Old at) h = absurd h
+  block_value (ref.New k) h = ap Node (block_number k)
+
+  -- the node of the block is the same where it stands
+  block_same : (o : ℕ) → o < length nodes → Same v.structure (Node (number_of v b o)) (own_nodes nodes) (Node o)
+  block_same o below = subst (λ n. Same v.structure (Node n) (own_nodes nodes) (Node o)) (sym (block_number o)) (placed_same v.structure place nodes alone block_placed (ref.New o) below)
+
+  pub block_bounds : (r : Ref) → IsOwn (length nodes) r → (n a : ℕ) → n ≡ length nodes → a ≡ sum_by length nodes → Bounds v (ref_of v b r) n a
+  block_bounds r h n a count arcs = λ m c k.
+      let i = placed_bounds v.structure place nodes alone block_placed (shift place r) (own_inside v.structure place nodes alone block_placed r h) m c (subst (λ x. Counts v.structure x m c) (block_value r h) k) in
+      (omega (arith, i.0, count), omega (arith, i.1, arcs))
+
+  -- an arc of a node of the block
+  pub block_arc : (o : ℕ) → o < length nodes → (a : ℕ) (r : Ref) → IsOwn (length nodes) r → arc (own_nodes nodes) (Node o) a ≡ Some (own_value r) → arc v.structure (Node (number_of v b o)) a ≡ Some (ref_of v b r)
+  block_arc o below a r h e =
+      ap (λ n. arc v.structure (Node n) a) (block_number o) ∙ (placed_arc v.structure place nodes alone block_placed o below a r h e ∙ ap (λ x. Some x) (sym (block_value r h)))
+
+  pub block_least : (o : ℕ) → o < length nodes → (cs : List ℕ) (es : List Equation) → AreWithin (length cs) es → IsLeastAt (length cs) es nodes o → IsLeastOf (RuleAt (variant cs es)) v.structure (Node (number_of v b o))
+  block_least o below cs es within least =
+      same_least cs es within (own_nodes nodes) (Node o) v.structure (Node (number_of v b o)) s.structure (held_below v s b o (block_held o below)) ((block_same o below).1, (block_same o below).0) (least.least cs refl)

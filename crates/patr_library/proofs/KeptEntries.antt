@@ -1,0 +1,162 @@
+-- What is kept of each variant of an entry.
+use Rattle.std.proofs.Common.{◌≡◌, inr, ℕ, suc, ◌+◌, ◌<◌, List, [], ◌∷◌, ◌++◌, length, length-append, map, take, get_or, Some, None, slice_get, refl, sym, ap, ◌∙◌, arith, subst, Vec, Global}
+use Rattle.std.proofs.lemmas.List.{length-map, map-append}
+use Rattle.std.proofs.lemmas.Option.{slice_get-get_or}
+use Rattle.std.specs.List.{AllByRecursion, sum_by}
+use Rattle.patr_model.specs.Structure.{Node, arc}
+use Rattle.patr_model.specs.Derivation.{EntryVariant}
+use Rattle.patr_model.specs.Grammar.{variants}
+use Rattle.patr_model.specs.Variants.{AreWithin}
+use Rattle.patr_model.specs.Productions as production
+use Rattle.patr_model.specs.Build.{entries_fault, entry_fault, entry_variant_of, feature_variants}
+use Rattle.patr_model.proofs.StatedCategories.{are_built}
+use Rattle.patr_text.specs.declared.symbols.Id.{Id}
+use Rattle.patr_text.specs.declared.fault.Fault.{Fault}
+use Rattle.patr_grammar.specs.Reading.{features_seen}
+use Rattle.patr_lexicon.specs.declared.lexicon.Entry.{Entry}
+use Rattle.patr_lexicon.specs.Seen.{entry_seen}
+use Rattle.patr_expand.specs.declared.equation.Equation.{Equation}
+use Rattle.patr_expand.specs.declared.cause.ExpandCause.{ExpandCause}
+use Rattle.patr_expand.specs.Seen.{number, lists_at, IsRefusedBy}
+use Rattle.patr_arena.specs.declared.value.Value as its
+use Rattle.patr_arena.specs.declared.value.Value.TheVariants as value
+use Rattle.patr_arena.specs.declared.value.Ref.{Ref}
+use Rattle.patr_arena.specs.declared.value.Ref.TheVariants as ref
+use Rattle.patr_arena.specs.declared.value.Feature.{Feature}
+use Rattle.patr_arena.specs.Shown.{Shown, IsShown, ValueIsHeld, ref_of, value_of}
+use Rattle.patr_arena.specs.Blocks.{Extends, with_block}
+use Rattle.patr_arena.proofs.Showing.{same_number, same_number_held, still_held}
+use Rattle.patr_library.specs.declared.item.EntryItem.{EntryItem}
+use Rattle.patr_library.specs.Own.{IsOwn, own_nodes, own_value}
+use Rattle.patr_library.specs.Solved.{IsLeastAt}
+use Rattle.patr_library.specs.Stored.{keys}
+use Rattle.patr_library.specs.Built.{HasBlock, all_numbered, numbered_from}
+use Rattle.patr_library.specs.Entries.{AreEntriesDealt, IsEntryDealt, HasEntryItem, HasNoEntry, NumberedEntry, StaysAlone, entry_variants_of, variant_of}
+use Rattle.patr_library.proofs.Keeping.{block_still, both_dealt, new_block}
+use Rattle.patr_library.proofs.KeptRules.{AreFirst, each_more, fault_here, taken_fault}
+
+-- a new item of an entry's variant
+pub entry_dealt : (v w : Shown) (e k : ℕ) (x : EntryVariant) (nodes : List (List Feature)) (root : ℕ) (to : Ref) (b : ℕ) (at : its.Value) (n a : ℕ) (old new : List EntryItem) → IsShown v
+    → IsLeastAt 1 x.equations nodes root → w ≡ with_block v nodes → b ≡ length v.sizes → arc (own_nodes nodes) (Node root) 0 ≡ Some (own_value to) → IsOwn (length nodes) to
+    → value_of w at ≡ ref_of w b to → ValueIsHeld w at → n ≡ length nodes → a ≡ sum_by length nodes
+    → new ≡ old ++ record { entry = e; variant = k; root = at; nodes = n; arcs = a } ∷ []
+    → IsEntryDealt v w e k x old new
+entry_dealt v w e k x nodes root to b at n a old new s least is block slot own same held counted arcs more =
+    inr (
+      nodes,
+      is,
+      record { entry = e; variant = k; root = at; nodes = n; arcs = a },
+      more,
+      record {
+        entry_is = refl;
+        variant_is = refl;
+        nodes = nodes;
+        number = b;
+        slots = root;
+        to = to;
+        block = new_block v w nodes b s is block;
+        least = least;
+        slot = slot;
+        own = own;
+        root = same;
+        held = held;
+        nodes_are = counted;
+        arcs_are = arcs;
+      },
+    )
+
+-- ---- what stays where more stands behind it
+
+value_still : (v w : Shown) → Extends v w → (x : its.Value) → ValueIsHeld v x → ValueIsHeld w x × (value_of w x ≡ value_of v x)
+value_still v w e (value.Atom c) h = (tt, refl)
+value_still v w e (value.Node at) h = (still_held v w e at.block at.offset h, ap Node (same_number_held v w e at.block at.offset h))
+
+ref_still : (v w : Shown) → Extends v w → (b : ℕ) (nodes : List (List Feature)) → HasBlock v b nodes → (r : Ref) → IsOwn (length nodes) r → ref_of w b r ≡ ref_of v b r
+ref_still v w e b nodes h (ref.Atom c) own = refl
+ref_still v w e b nodes h (ref.Old at) own = absurd own
+ref_still v w e b nodes h (ref.New k) own =
+    let before = h.before.sizes in
+    let more = h.extends.sizes.0 in
+    ap Node (same_number v w e b k (omega (arith, h.number, ap length h.extends.sizes.1, length-append (before ++ length nodes ∷ []) more, length-append before (length nodes ∷ []))))
+
+pub entry_still : (v w : Shown) → Extends v w → (d : NumberedEntry) (i : EntryItem) → HasEntryItem v d i → HasEntryItem w d i
+entry_still v w e d i s =
+    let value = value_still v w e i.root s.held in
+    record {
+      entry_is = s.entry_is;
+      variant_is = s.variant_is;
+      nodes = s.nodes;
+      number = s.number;
+      slots = s.slots;
+      to = s.to;
+      block = block_still v w s.number s.nodes e s.block;
+      least = s.least;
+      slot = s.slot;
+      own = s.own;
+      root = value.1 ∙ (s.root ∙ sym (ref_still v w e s.number s.nodes s.block s.to s.own));
+      held = value.0;
+      nodes_are = s.nodes_are;
+      arcs_are = s.arcs_are;
+    }
+
+-- ---- the variants of one entry
+
+pub among : {X : Type 0} (P : X → Type 0) (ys zs : List X) (x : X) (all : List X) → ys ++ x ∷ zs ≡ all → AllByRecursion P all → P x
+among {X = X} P ys zs x all is h = go ys (subst (AllByRecursion P) (sym is) h)
+  where
+    go : (ys : List X) → AllByRecursion P (ys ++ x ∷ zs) → P x
+    go [] a = a.0
+    go (y ∷ ys) a = go ys a.1
+
+pub nothing_left : {X : Type 0} (xs : List X) → length xs ≡ 0 → xs ≡ []
+nothing_left [] h = refl
+nothing_left (x ∷ xs) h = absurd (omega arith)
+
+numbered_append : {X : Type 0} (n k : ℕ) (xs : List X) (x : X) → numbered_from n k (xs ++ x ∷ []) ≡ numbered_from n k xs ++ (n, k + length xs, x) ∷ []
+numbered_append n k [] x = ap (λ j. (n, j, x) ∷ []) (let e : k ≡ k + 0 = omega arith in e)
+numbered_append n k (y ∷ xs) x =
+    ap (λ l. (n, k, y) ∷ l) (numbered_append n (suc k) xs x ∙ ap (λ j. numbered_from n (suc k) xs ++ (n, j, x) ∷ []) (let e : suc k + length xs ≡ k + suc (length xs) = omega arith in e))
+
+pub variant_more : {X Y : Type 0} (f : X → Y) (n k : ℕ) (xs : List X) (x : X) → k ≡ length xs → numbered_from n 0 (map f (xs ++ x ∷ [])) ≡ numbered_from n 0 (map f xs) ++ (n, k, f x) ∷ []
+variant_more f n k xs x h =
+    ap (numbered_from n 0) (map-append f xs (x ∷ []))
+    ∙ (numbered_append n 0 (map f xs) (f x) ∙ ap (λ j. numbered_from n 0 (map f xs) ++ (n, j, f x) ∷ []) (let e : 0 + length (map f xs) ≡ k = omega (arith, length-map xs f, h) in e))
+
+pub variants_are : (e : Entry) (vs : List (Vec Equation Global)) → lists_at vs ≡ variants (feature_variants number) (features_seen e.features.items) → map (variant_of e) vs ≡ entry_variants_of e
+variants_are e vs is = go vs ∙ ap (map (entry_variant_of number keys (entry_seen e))) is
+  where
+    go : (us : List (Vec Equation Global)) → map (variant_of e) us ≡ map (entry_variant_of number keys (entry_seen e)) (lists_at us)
+    go [] = refl
+    go (u ∷ us) = ap (λ l. variant_of e u ∷ l) (go us)
+
+pub all_alone : (e : Entry) (vs : List (Vec Equation Global)) → map (variant_of e) vs ≡ entry_variants_of e → AllByRecursion (StaysAlone e) vs
+all_alone e vs is =
+    let g : production.Grammar Id = record { rules = []; templates = []; lexical_rules = []; start = record { 0 = 0 }; restrictor = []; order = [] } in
+    go vs (λ k x h. (are_built number keys g (entry_seen e ∷ [])).within.entries 0 k x (ap (λ l. slice_get l k) (sym is) ∙ h))
+  where
+    go : (us : List (Vec Equation Global)) → ((k : ℕ) (x : EntryVariant) → slice_get (map (variant_of e) us) k ≡ Some x → AreWithin 1 x.equations) → AllByRecursion (StaysAlone e) us
+    go [] f = tt
+    go (u ∷ us) f = (f 0 (variant_of e u) refl, go us (λ k x h. f (suc k) x h))
+
+-- ---- the entries one after another
+
+entries_first : AreFirst (λ e. entry_fault (entry_seen e)) (λ es. entries_fault (map entry_seen es))
+entries_first = record { none = refl; more = λ e es. refl }
+
+-- one more
+pub entries_next : (es : List Entry) (i : ℕ) (x : Entry) (v mid u : Shown) (old some new : List EntryItem) → i < length es → get_or es i x ≡ x
+    → AreEntriesDealt v mid (all_numbered 0 (map entry_variants_of (take i es))) old some → entries_fault (map entry_seen (take i es)) ≡ None
+    → AreEntriesDealt mid u (numbered_from i 0 (entry_variants_of x)) some new → entry_fault (entry_seen x) ≡ None
+    → AreEntriesDealt v u (all_numbered 0 (map entry_variants_of (take (i + 1) es))) old new × (entries_fault (map entry_seen (take (i + 1) es)) ≡ None)
+entries_next es i x v mid u old some new h is before fine here faultless =
+    let all = all_numbered 0 (map entry_variants_of (take i es)) in (
+      subst (λ ds. AreEntriesDealt v u ds old new) (sym (each_more entry_variants_of es i x h ∙ ap (λ y. all ++ numbered_from i 0 (entry_variants_of y)) is))
+          (both_dealt HasEntryItem HasNoEntry v mid u all (numbered_from i 0 (entry_variants_of x)) old some new before here),
+      taken_fault (λ e. entry_fault (entry_seen e)) (λ es. entries_fault (map entry_seen es)) entries_first es i x x h is fine faultless,
+    )
+
+-- the first fault is that of this entry
+pub entry_fault_here : (es : List Entry) (i : ℕ) (x : Entry) (why : Fault ExpandCause) → i < length es → get_or es i x ≡ x → entries_fault (map entry_seen (take i es)) ≡ None → IsRefusedBy (entry_fault (entry_seen x)) why
+    → IsRefusedBy (entries_fault (map entry_seen es)) why
+entry_fault_here es i x why h is fine k =
+    fault_here (λ e. entry_fault (entry_seen e)) (λ es. entries_fault (map entry_seen es)) entries_first es i x why (slice_get-get_or es i x h ∙ ap (λ y. Some y) is) fine k

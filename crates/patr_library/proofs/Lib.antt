@@ -1,0 +1,16 @@
+mod Corresponding
+mod EntryItems
+mod Imaging
+mod ItemsKept
+mod Keeping
+mod KeptEntries
+mod KeptRules
+mod Listed
+mod Listing
+mod Merged
+mod Owned
+mod Placed
+mod Placing
+mod RuleItems
+mod Steps
+mod Unified

@@ -1,0 +1,206 @@
+-- Blocks without old addresses where they stand in an arena.
+use Rattle.std.proofs.Common.{◌≡◌, ◌⊎◌, inl, inr, ℕ, zero, suc, ◌+◌, ◌-◌, ◌<◌, ◌≤◌, Bool, true, false, cond, nat_eq, nat_lt, lt-ltb, le-ltb, ltb-true, ltb-false, List, [], ◌∷◌, ◌++◌, length, length-append, map, get_or, Option, Some, None, slice_get, refl, sym, ap, ◌∙◌, arith, subst}
+use Rattle.std.proofs.lemmas.List.{length-map, get_or_append_left, get_or-append-add}
+use Rattle.patr_model.specs.Structure.{Value, Node, Structure, along, IsBelow, IsValue, IsStructure}
+use Rattle.std.specs.List.Sorted.{IsStrictlyIncreasing}
+use Rattle.patr_model.specs.Subsumption.{Same}
+use Rattle.patr_model.proofs.Maps.{some_inj}
+use Rattle.patr_arena.specs.declared.value.Ref.{Ref}
+use Rattle.patr_arena.specs.declared.value.Ref.TheVariants as ref
+use Rattle.patr_arena.specs.declared.value.Feature.{Feature}
+use Rattle.patr_arena.specs.declared.value.Addr.{Addr}
+use Rattle.patr_arena.specs.Shown.{Shown, IsShown, IsHeld, RefIsHeld, number_of, ref_of, arcs_from}
+use Rattle.patr_arena.specs.Blocks.{IsBlock, OldIsHeld, OldRefIsHeld, LeadsBelow, attributes, with_block}
+use Rattle.patr_arena.proofs.Showing.{still_held, same_number, same_number_held, block_extends, new_number, new_node}
+use Rattle.patr_arena.proofs.Rises.{rising_distinct}
+use Rattle.patr_library.specs.Own.{own_value, own_arcs, own_nodes, IsOwn, AllOwn, IsOwnBlock, ArePlaces, offsets_of, shift, shifted, IsPlacedAt}
+use Rattle.patr_library.specs.Copies.{IsImage, AreCopies, Corresponds}
+use Rattle.patr_library.proofs.Corresponding.{same, own_get}
+use Rattle.patr_library.proofs.Owned.{held_anywhere}
+
+-- ---- a block is a structure
+
+own_attributes : (fs : List Feature) → map (λ e. e.attribute) (own_arcs fs) ≡ attributes fs
+own_attributes [] = refl
+own_attributes (f ∷ fs) = ap (λ l. f.attribute.0 ∷ l) (own_attributes fs)
+
+own_lower : (n : ℕ) (fs : List Feature) → AllOwn n fs → (a : ℕ) (x : Value) → along (own_arcs fs) a ≡ Some x → IsBelow n x
+own_lower n [] h a x e = cc
+own_lower n (f ∷ fs) h a x e = go (nat_eq f.attribute.0 a) (own_lower n fs h.1 a x) e
+  where
+    below : (r : Ref) → IsOwn n r → IsBelow n (own_value r)
+    below (ref.Atom c) k = tt
+    below (ref.Old at) k = absurd k
+    below (ref.New j) k = k
+
+    go : (b : Bool) → (along (own_arcs fs) a ≡ Some x → IsBelow n x) → cond b (Some (own_value f.to)) (along (own_arcs fs) a) ≡ Some x → IsBelow n x
+    go true rest k = subst (IsBelow n) (some_inj (own_value f.to) x k) (below f.to h.0)
+    go false rest k = rest k
+
+pub own_structure : (nodes : List (List Feature)) → IsOwnBlock nodes → IsStructure (own_nodes nodes)
+own_structure nodes own = record {
+  distinct = λ n. rising_distinct (get_or (own_nodes nodes) n []) (subst (λ es. IsStrictlyIncreasing (map (λ e. e.attribute) es)) (sym (own_get nodes n)) (subst IsStrictlyIncreasing (sym (own_attributes (get_or nodes n []))) (own.block.rising n)));
+  lower = λ n a x e. own_lower n (get_or nodes n []) (own.own n) a x (ap (λ es. along es a) (sym (own_get nodes n)) ∙ e);
+}
+
+pub own_is_value : (nodes : List (List Feature)) (r : Ref) → IsOwn (length nodes) r → IsValue (own_nodes nodes) (own_value r)
+own_is_value nodes (ref.Atom c) h = tt
+own_is_value nodes (ref.Old at) h = absurd h
+own_is_value nodes (ref.New k) h = omega (arith, h, length-map nodes own_arcs)
+
+-- ---- a block that stands from a place on
+
+module _ (p m : ℕ) where
+  to_own : ℕ → Option ℕ
+  to_own n = cond (nat_lt n p) None (cond (nat_lt (n - p) m) (Some (n - p)) None)
+
+  from_own : ℕ → Option ℕ
+  from_own k = cond (nat_lt k m) (Some (p + k)) None
+
+  to_own_at : (k : ℕ) → k < m → to_own (p + k) ≡ Some k
+  unfolding to_own
+  to_own_at k h =
+      let e : (p + k) - p ≡ k = omega arith in
+      ap (λ b. cond b None (cond (nat_lt ((p + k) - p) m) (Some ((p + k) - p)) None)) (le-ltb (p + k) p (omega arith))
+      ∙ (ap (λ j. cond (nat_lt j m) (Some j) None) e ∙ ap (λ b. cond b (Some k) None) (lt-ltb k m h))
+
+  from_own_at : (k : ℕ) → k < m → from_own k ≡ Some (p + k)
+  unfolding from_own
+  from_own_at k h = ap (λ b. cond b (Some (p + k)) None) (lt-ltb k m h)
+
+  to_own_is : (n k : ℕ) → to_own n ≡ Some k → (n ≡ p + k) × (k < m)
+  unfolding to_own
+  to_own_is n k h = first (nat_lt n p) refl h
+    where
+      second : (b : Bool) → nat_lt (n - p) m ≡ b → p ≤ n → cond b (Some (n - p)) None ≡ Some k → (n ≡ p + k) × (k < m)
+      second true t l e = let s = some_inj (n - p) k e in let below = ltb-true (n - p) m t in (omega (arith, s, l), omega (arith, s, below))
+      second false t l e = cc
+
+      first : (b : Bool) → nat_lt n p ≡ b → cond b None (cond (nat_lt (n - p) m) (Some (n - p)) None) ≡ Some k → (n ≡ p + k) × (k < m)
+      first true t e = cc
+      first false t e = second (nat_lt (n - p) m) refl (ltb-false n p t) e
+
+  from_own_is : (k n : ℕ) → from_own k ≡ Some n → (n ≡ p + k) × (k < m)
+  unfolding from_own
+  from_own_is k n h = go (nat_lt k m) refl h
+    where
+      go : (b : Bool) → nat_lt k m ≡ b → cond b (Some (p + k)) None ≡ Some n → (n ≡ p + k) × (k < m)
+      go true t e = (sym (some_inj (p + k) n e), ltb-true k m t)
+      go false t e = cc
+
+  own_image : (r : Ref) → IsOwn m r → IsImage to_own (shift p r) r
+  own_image (ref.Atom c) h = refl
+  own_image (ref.Old at) h = absurd h
+  own_image (ref.New k) h = to_own_at k h
+
+  own_copies : (n : ℕ) → n ≤ m → (fs : List Feature) → AllOwn n fs → AreCopies to_own (shifted p fs) fs
+  own_copies n l [] h = tt
+  own_copies n l (f ∷ fs) h = (refl, own_image f.to (wider f.to h.0), own_copies n l fs h.1)
+    where
+      wider : (r : Ref) → IsOwn n r → IsOwn m r
+      wider (ref.Atom c) k = tt
+      wider (ref.Old at) k = absurd k
+      wider (ref.New j) k = omega (arith, k, l)
+
+pub placed_same : (S : Structure) (p : ℕ) (nodes : List (List Feature)) → IsOwnBlock nodes → IsPlacedAt S p nodes → (r : Ref) → IsOwn (length nodes) r → Same S (shift p r) (own_nodes nodes) (own_value r)
+placed_same S p nodes own placed r h = same S nodes (to_own p (length nodes)) (from_own p (length nodes)) both (shift p r) r (own_image p (length nodes) r h)
+  where
+    both : Corresponds S nodes (to_own p (length nodes)) (from_own p (length nodes))
+    both = record {
+      forth = λ n k e.
+          let i = to_own_is p (length nodes) n k e in (
+            i.1,
+            omega (arith, i.0, i.1, placed.within),
+            from_own_at p (length nodes) k i.1 ∙ ap (λ j. Some j) (sym i.0),
+            subst (λ j. AreCopies (to_own p (length nodes)) (get_or S j []) (get_or nodes k [])) (sym i.0)
+                (subst (λ es. AreCopies (to_own p (length nodes)) es (get_or nodes k [])) (sym (placed.each k i.1)) (own_copies p (length nodes) k (omega (arith, i.1)) (get_or nodes k []) (own.own k))),
+          );
+      back = λ k n e. let i = from_own_is p (length nodes) k n e in ap (to_own p (length nodes)) i.0 ∙ to_own_at p (length nodes) k i.1;
+    }
+
+pub placed_longer : (S N : Structure) (p : ℕ) (nodes : List (List Feature)) → IsPlacedAt S p nodes → IsPlacedAt (S ++ N) p nodes
+placed_longer S N p nodes placed = record {
+  within = omega (arith, placed.within, length-append S N);
+  each = λ k h. get_or_append_left S N [] (p + k) (omega (arith, h, placed.within)) ∙ placed.each k h;
+}
+
+arcs_shifted : (v : Shown) (p m : ℕ) → ((o : ℕ) → number_of v (length v.sizes) o ≡ p + o) → (fs : List Feature) → AllOwn m fs → arcs_from v (length v.sizes) fs ≡ shifted p fs
+arcs_shifted v p m e [] h = refl
+arcs_shifted v p m e (f ∷ fs) h = ap (λ x. record { attribute = f.attribute.0; to = x } ∷ arcs_from v (length v.sizes) fs) (go f.to h.0) ∙ ap (λ es. record { attribute = f.attribute.0; to = shift p f.to } ∷ es) (arcs_shifted v p m e fs h.1)
+  where
+    go : (r : Ref) → IsOwn m r → ref_of v (length v.sizes) r ≡ shift p r
+    go (ref.Atom c) k = refl
+    go (ref.Old at) k = absurd k
+    go (ref.New j) k = ap Node (e j)
+
+pub placed_new : (v : Shown) → IsShown v → (nodes : List (List Feature)) → IsOwnBlock nodes → IsPlacedAt (with_block v nodes).structure (length v.structure) nodes
+placed_new v s nodes own =
+    let old = held_anywhere v nodes own in
+    record {
+      within = omega (arith, length-append v.structure (map (arcs_from v (length v.sizes)) nodes), length-map nodes (arcs_from v (length v.sizes)));
+      each = λ k h. new_node v s nodes own.block old k ∙ arcs_shifted v (length v.structure) k (new_number v s nodes own.block old) (get_or nodes k []) (own.own k);
+    }
+
+-- ---- addresses
+
+offset_at : (b k m i : ℕ) (at : Addr) → slice_get (offsets_of b k m) i ≡ Some at → (at ≡ record { block = b; offset = k + i }) × (i < m)
+offset_at b k zero i at h = cc
+offset_at b k (suc m) zero at h = (sym (some_inj (record { block = b; offset = k }) at h) ∙ ap (λ o. record { block = b; offset = o }) (let e : k ≡ k + 0 = omega arith in e), omega arith)
+offset_at b k (suc m) (suc i) at h = let s = offset_at b (suc k) m i at h in (s.0 ∙ ap (λ o. record { block = b; offset = o }) (let e : suc k + i ≡ k + suc i = omega arith in e), omega (arith, s.1))
+
+pub offsets_more : (b k n : ℕ) → offsets_of b k (n + 1) ≡ offsets_of b k n ++ record { block = b; offset = k + n } ∷ []
+offsets_more b k zero = ap (λ o. record { block = b; offset = o } ∷ []) (let e : k ≡ k + 0 = omega arith in e)
+offsets_more b k (suc n) =
+    ap (λ m. offsets_of b k m) (let e : suc n + 1 ≡ suc (n + 1) = omega arith in e)
+    ∙ ap (λ l. record { block = b; offset = k } ∷ l) (offsets_more b (suc k) n ∙ ap (λ o. offsets_of b (suc k) n ++ record { block = b; offset = o } ∷ []) (let e : suc k + n ≡ k + suc n = omega arith in e))
+
+offsets_long : (b k n : ℕ) → length (offsets_of b k n) ≡ n
+offsets_long b k zero = refl
+offsets_long b k (suc n) = ap (λ m. suc m) (offsets_long b (suc k) n)
+
+get_append : {X : Type 0} (xs ys : List X) (n : ℕ) (x : X) → slice_get (xs ++ ys) n ≡ Some x → ((n < length xs) × (slice_get xs n ≡ Some x)) ⊎ ((i : ℕ) × (n ≡ length xs + i) × (slice_get ys i ≡ Some x))
+get_append [] ys n x h = inr (n, omega arith, h)
+get_append (y ∷ xs) ys zero x h = inl (omega arith, h)
+get_append {X = X} (y ∷ xs) ys (suc n) x h = elim (get_append xs ys n x h) as (λ _. ((suc n < suc (length xs)) × (slice_get xs n ≡ Some x)) ⊎ ((i : ℕ) × (suc n ≡ suc (length xs) + i) × (slice_get ys i ≡ Some x))) [
+  | inl i ↦ inl (omega (arith, i.0), i.1)
+  | inr i ↦ inr (i.0, omega (arith, i.1), i.2)
+]
+
+pub places_pushed : (v : Shown) → IsShown v → (nodes : List (List Feature)) → IsBlock nodes → OldIsHeld v nodes → (places : List Addr) → ArePlaces v places
+    → ArePlaces (with_block v nodes) (places ++ offsets_of (length v.sizes) 0 (length nodes))
+places_pushed v s nodes block old places are =
+    let w = with_block v nodes in
+    let more = block_extends v s nodes block old in
+    record {
+      long = omega (arith, length-append places (offsets_of (length v.sizes) 0 (length nodes)), offsets_long (length v.sizes) 0 (length nodes), are.long, length-append v.structure (map (arcs_from v (length v.sizes)) nodes), length-map nodes (arcs_from v (length v.sizes)));
+      each = λ n at e. elim (get_append places (offsets_of (length v.sizes) 0 (length nodes)) n at e) [
+        | inl h ↦ let a = are.each n at h.1 in (still_held v w more at.block at.offset a.0, same_number_held v w more at.block at.offset a.0 ∙ a.1)
+        | inr h ↦
+            let o = offset_at (length v.sizes) 0 (length nodes) h.0 at h.2 in
+            let offset : at.offset ≡ h.0 = ap (λ (x : Addr). x.offset) o.0 ∙ (let e : 0 + h.0 ≡ h.0 = omega arith in e) in
+            let number : at.block ≡ length v.sizes = ap (λ (x : Addr). x.block) o.0 in
+            let size : get_or w.sizes (length v.sizes) 0 ≡ length nodes = ap (λ k. get_or w.sizes k 0) (let e : length v.sizes ≡ length v.sizes + 0 = omega arith in e) ∙ get_or-append-add v.sizes (length nodes ∷ []) 0 0 in (
+              subst (λ b. IsHeld w b at.offset) (sym number) (omega (arith, size, offset, o.1)),
+              ap (λ b. number_of w b at.offset) number ∙ (same_number v w more (length v.sizes) at.offset (omega arith) ∙ (new_number v s nodes block old at.offset ∙ omega (arith, offset, h.1, are.long))),
+            )
+      ];
+    }
+
+-- ---- arcs of a new block
+
+pub ref_held : (v : Shown) → IsShown v → (nodes : List (List Feature)) → IsBlock nodes → OldIsHeld v nodes → (r : Ref) → LeadsBelow (length nodes) r → OldRefIsHeld v r → RefIsHeld (with_block v nodes) (length v.sizes) r
+ref_held v s nodes block old (ref.Atom c) b h = tt
+ref_held v s nodes block old (ref.Old at) b h = still_held v (with_block v nodes) (block_extends v s nodes block old) at.block at.offset h
+ref_held v s nodes block old (ref.New k) b h =
+    let size : get_or (with_block v nodes).sizes (length v.sizes) 0 ≡ length nodes = ap (λ k. get_or (with_block v nodes).sizes k 0) (let e : length v.sizes ≡ length v.sizes + 0 = omega arith in e) ∙ get_or-append-add v.sizes (length nodes ∷ []) 0 0 in
+    omega (arith, size, b)
+
+pub ref_same : (v : Shown) → IsShown v → (nodes : List (List Feature)) → IsBlock nodes → OldIsHeld v nodes → (r : Ref) → OldRefIsHeld v r → ref_of (with_block v nodes) (length v.sizes) r ≡ ref_of v (length v.sizes) r
+ref_same v s nodes block old (ref.Atom c) h = refl
+ref_same v s nodes block old (ref.Old at) h = ap Node (same_number_held v (with_block v nodes) (block_extends v s nodes block old) at.block at.offset h)
+ref_same v s nodes block old (ref.New k) h = ap Node (same_number v (with_block v nodes) (block_extends v s nodes block old) (length v.sizes) k (omega arith))
+
+pub own_shift : (v : Shown) → IsShown v → (nodes : List (List Feature)) → IsOwnBlock nodes → (r : Ref) → IsOwn (length nodes) r → ref_of v (length v.sizes) r ≡ shift (length v.structure) r
+own_shift v s nodes own (ref.Atom c) h = refl
+own_shift v s nodes own (ref.Old at) h = absurd h
+own_shift v s nodes own (ref.New k) h = ap Node (new_number v s nodes own.block (held_anywhere v nodes own) k)

@@ -1,0 +1,157 @@
+-- The least value of one more equation.
+use Rattle.std.proofs.Common.{◌≡◌, ℕ, zero, suc, ◌+◌, ◌<◌, ◌≤◌, List, [], ◌∷◌, ◌++◌, length, length-append, map, get_or, replicate, take, drop, None, refl, sym, ap, ◌∙◌, arith, subst}
+use Rattle.std.proofs.lemmas.List.{map-append, length-replicate, take_more, take-append-drop}
+use Rattle.std.specs.List.Sorted.{IsStrictlyIncreasing}
+use Rattle.patr_model.specs.Structure.{Value, Node, Arcs, Structure, IsValue, IsStructure}
+use Rattle.patr_model.specs.Subsumption.{MapsInto, Same, TakesBoth, IsUnifier}
+use Rattle.patr_model.specs.Equation.{Equation}
+use Rattle.patr_model.specs.Solution.{slots_from}
+use Rattle.patr_model.specs.Variants.{variant, RuleAt, IsLeastOf, AreWithin, IsWithin, equation_at, blank_slots, nodes_from}
+use Rattle.patr_model.proofs.Maps.{maps_reflexive, maps_transitive}
+use Rattle.patr_model.proofs.Variants.{rule_carried, variant_steps}
+use Rattle.patr_arena.specs.declared.value.Ref.{Ref}
+use Rattle.patr_arena.specs.declared.value.Ref.TheVariants as ref
+use Rattle.patr_arena.specs.declared.value.Feature.{Feature}
+use Rattle.patr_arena.specs.Blocks.{attributes}
+use Rattle.patr_library.specs.Own.{own_value, own_arcs, own_nodes, pointed, AllOwn, IsOwnBlock, IsRooted, IsStatement}
+use Rattle.patr_library.specs.Solved.{slot_features, IsLeastAt, HasNone, IsUnified, TakeNone}
+use Rattle.patr_library.proofs.Placed.{own_structure, own_is_value}
+
+-- ---- unspecified slots
+
+pub features_more : (k n : ℕ) → slot_features k (n + 1) ≡ slot_features k n ++ record { attribute = record { 0 = k + n }; to = ref.New (k + n) } ∷ []
+features_more k zero = ap (λ o. record { attribute = record { 0 = o }; to = ref.New o } ∷ []) (let e : k ≡ k + 0 = omega arith in e)
+features_more k (suc n) =
+    ap (slot_features k) (let e : suc n + 1 ≡ suc (n + 1) = omega arith in e)
+    ∙ ap (λ l. record { attribute = record { 0 = k }; to = ref.New k } ∷ l) (features_more (suc k) n ∙ ap (λ o. slot_features (suc k) n ++ record { attribute = record { 0 = o }; to = ref.New o } ∷ []) (let e : suc k + n ≡ k + suc n = omega arith in e))
+
+pub blanks_more : (n : ℕ) → replicate {A = List Feature} (n + 1) [] ≡ replicate n [] ++ [] ∷ []
+blanks_more zero = refl
+blanks_more (suc n) = ap (λ m. replicate {A = List Feature} m []) (let e : suc n + 1 ≡ suc (n + 1) = omega arith in e) ∙ ap (λ l. [] ∷ l) (blanks_more n)
+
+attribute_at : (k n i d : ℕ) → i < n → get_or (attributes (slot_features k n)) i d ≡ k + i
+attribute_at k zero i d h = absurd (omega (arith, h))
+attribute_at k (suc n) zero d h = omega arith
+attribute_at k (suc n) (suc i) d h = attribute_at (suc k) n i d (omega (arith, h)) ∙ (let e : suc k + i ≡ k + suc i = omega arith in e)
+
+attributes_long : (k n : ℕ) → length (attributes (slot_features k n)) ≡ n
+attributes_long k zero = refl
+attributes_long k (suc n) = ap (λ m. suc m) (attributes_long (suc k) n)
+
+pub features_rise : (k n : ℕ) → IsStrictlyIncreasing (attributes (slot_features k n))
+features_rise k n = λ i h.
+    let long = attributes_long k n in
+    let one = attribute_at k n i 0 (omega (arith, h, long)) in
+    let two = attribute_at k n (i + 1) 0 (omega (arith, h, long)) in
+    omega (arith, one, two)
+
+pub features_own : (k n m : ℕ) → k + n ≤ m → AllOwn m (slot_features k n)
+features_own k zero m h = tt
+features_own k (suc n) m h = (omega (arith, h), features_own (suc k) n m (omega (arith, h)))
+
+own_blanks : (n : ℕ) → own_nodes (replicate n []) ≡ replicate n []
+own_blanks zero = refl
+own_blanks (suc n) = ap (λ l. [] ∷ l) (own_blanks n)
+
+own_slots : (k n : ℕ) → own_arcs (slot_features k n) ≡ slots_from k (nodes_from k n)
+own_slots k zero = refl
+own_slots k (suc n) = ap (λ l. record { attribute = k; to = Node k } ∷ l) (own_slots (suc k) n)
+
+pub blank_is_least : (n : ℕ) (nodes : List (List Feature)) (root : ℕ) → IsOwnBlock nodes → nodes ≡ replicate n [] ++ slot_features 0 n ∷ [] → root ≡ n → IsLeastAt n [] nodes root
+blank_is_least n nodes root own is at = record {
+  rooted = record { own = own; root = omega (arith, at, ap length is, length-append (replicate {A = List Feature} n []) (slot_features 0 n ∷ []), length-replicate {A = List Feature} n []) };
+  least = λ cs count.
+      let structure : own_nodes nodes ≡ (blank_slots n).nodes =
+      ap own_nodes is ∙ (map-append own_arcs (replicate n []) (slot_features 0 n ∷ []) ∙ (ap (λ l. l ++ own_arcs (slot_features 0 n) ∷ []) (own_blanks n) ∙ ap (λ es. replicate n [] ++ es ∷ []) (own_slots 0 n))) in
+      let place : root ≡ length (replicate {A = Arcs} n []) = at ∙ sym (length-replicate {A = Arcs} n []) in
+      subst (λ S. IsLeastOf (RuleAt (variant cs [])) S (Node root)) (sym structure)
+      (subst (λ k. IsLeastOf (RuleAt (variant cs [])) (blank_slots n).nodes (Node k)) (sym place)
+      (subst (λ k. IsLeastOf (RuleAt (variant cs [])) (blank_slots k).nodes (blank_slots k).root) count (variant_steps.starts cs)));
+}
+
+-- ---- one equation more
+
+pub within_left : (n : ℕ) (es fs : List Equation) → AreWithin n (es ++ fs) → AreWithin n es
+within_left n [] fs h = tt
+within_left n (e ∷ es) fs h = (h.0, within_left n es fs h.1)
+
+within_last : (n : ℕ) (es : List Equation) (e : Equation) → AreWithin n (es ++ e ∷ []) → IsWithin n e
+within_last n [] e h = h.0
+within_last n (x ∷ es) e h = within_last n es e h.1
+
+-- the same sides have the same unifiers
+same_takes : (L : Structure) (l : Value) (R : Structure) (r : Value) (A : Structure) (α : Value) (E : Structure) (ε : Value) → MapsInto A α L l → MapsInto E ε R r
+    → (G : Structure) (v : Value) → TakesBoth L l [] R r G v → TakesBoth A α [] E ε G v
+same_takes L l R r A α E ε a e G v t = record {
+  structure = t.structure;
+  held = t.held;
+  left = maps_transitive A α L l G v a t.left;
+  place = t.place;
+  there = t.there;
+  right = maps_transitive E ε R r G t.place e t.right;
+}
+
+pub same_unifier : (L : Structure) (l : Value) (R : Structure) (r : Value) (A : Structure) (α : Value) (E : Structure) (ε : Value) → Same L l A α → Same R r E ε
+    → (U : Structure) (u : Value) → IsUnifier L l [] R r U u → IsUnifier A α [] E ε U u
+same_unifier L l R r A α E ε a e U u un = record {
+  takes = same_takes L l R r A α E ε a.1 e.1 U u un.takes;
+  least = λ G g t. un.least G g (same_takes A α E ε L l R r a.0 e.0 G g t);
+}
+
+pub same_none : (L : Structure) (l : Value) (R : Structure) (r : Value) (A : Structure) (α : Value) (E : Structure) (ε : Value) → Same L l A α → Same R r E ε
+    → ((G : Structure) (v : Value) → TakesBoth L l [] R r G v → ⊥) → (G : Structure) (v : Value) → TakesBoth A α [] E ε G v → ⊥
+same_none L l R r A α E ε a e none G v t = none G v (same_takes A α E ε L l R r a.0 e.0 G v t)
+
+-- what is the same as a least value is one
+pub same_least : (cs : List ℕ) (es : List Equation) → AreWithin (length cs) es → (U : Structure) (u : Value) (C : Structure) (c : Value) → IsStructure C → IsValue C c → Same U u C c
+    → IsLeastOf (RuleAt (variant cs es)) U u → IsLeastOf (RuleAt (variant cs es)) C c
+same_least cs es w U u C c s h same least = record {
+  structure = s;
+  held = h;
+  holds = rule_carried cs es U u C c w least.holds same.0 s;
+  least = λ G v g held p. maps_transitive C c U u G v same.1 (least.least G v g held p);
+}
+
+self : (nodes : List (List Feature)) (r : Ref) → IsRooted nodes r → Same (own_nodes nodes) (own_value r) (own_nodes nodes) (own_value r)
+self nodes r rooted =
+    let m = maps_reflexive (own_nodes nodes) (own_value r) (own_structure nodes rooted.own) (own_is_value nodes r rooted.root) in (m, m)
+
+swap : (S : Structure) (v : Value) (G : Structure) (w : Value) → Same S v G w → Same G w S v
+swap S v G w s = (s.1, s.0)
+
+pub least_more : (slots : ℕ) (es : List Equation) (e : Equation) (left : List (List Feature)) (l : ℕ) (right : List (List Feature)) (r : Ref) (nodes : List (List Feature)) (root : ℕ)
+    → IsLeastAt slots es left l → AreWithin slots (es ++ e ∷ []) → IsStatement e (pointed right r) → IsUnified left l right r nodes root → IsLeastAt slots (es ++ e ∷ []) nodes root
+least_more slots es e left l right r nodes root so_far within stated made = record {
+  rooted = made.rooted;
+  least = λ cs count.
+      let w : AreWithin (length cs) (es ++ e ∷ []) = subst (λ n. AreWithin n (es ++ e ∷ [])) (sym count) within in
+      let E = stated.stated in
+      let un = same_unifier (own_nodes left) (Node l) (own_nodes right) (own_value r) (own_nodes left) (Node l) E.nodes E.root (self left (ref.New l) so_far.rooted) (swap E.nodes E.root (own_nodes right) (own_value r) stated.same) made.whole made.at made.unifier in
+      let all = variant_steps.adds cs es e E (own_nodes left) (Node l) made.whole made.at (within_left (length cs) es (e ∷ []) w) (within_last (length cs) es e w) stated.is (so_far.least cs count) un in
+      same_least cs (es ++ e ∷ []) w made.whole made.at (own_nodes nodes) (Node root) (own_structure nodes made.rooted.own) (own_is_value nodes (ref.New root) made.rooted.root) made.same all;
+}
+
+pub none_more : (slots : ℕ) (es : List Equation) (e : Equation) (left : List (List Feature)) (l : ℕ) (right : List (List Feature)) (r : Ref)
+    → IsLeastAt slots es left l → AreWithin slots (es ++ e ∷ []) → IsStatement e (pointed right r) → TakeNone left l right r → HasNone slots (es ++ e ∷ [])
+none_more slots es e left l right r so_far within stated none = λ cs count.
+    let w : AreWithin (length cs) (es ++ e ∷ []) = subst (λ n. AreWithin n (es ++ e ∷ [])) (sym count) within in
+    let E = stated.stated in
+    variant_steps.refuses cs es e E (own_nodes left) (Node l) (within_last (length cs) es e w) stated.is (so_far.least cs count)
+    (same_none (own_nodes left) (Node l) (own_nodes right) (own_value r) (own_nodes left) (Node l) E.nodes E.root (self left (ref.New l) so_far.rooted) (swap E.nodes E.root (own_nodes right) (own_value r) stated.same) none)
+
+pub none_at_once : (slots : ℕ) (es : List Equation) (e : Equation) → equation_at e ≡ None → HasNone slots (es ++ e ∷ [])
+none_at_once slots es e h = λ cs count. variant_steps.refuses_at_once cs es e h
+
+pub none_still : (slots : ℕ) (es fs : List Equation) → HasNone slots es → HasNone slots (es ++ fs)
+none_still slots es fs h = λ cs count. variant_steps.keeps_refusing cs es fs (h cs count)
+
+-- ---- the equations so far
+
+pub taken_more : {X : Type 0} (f : X → Equation) (xs : List X) (i : ℕ) (d : X) → i < length xs → map f (take (i + 1) xs) ≡ map f (take i xs) ++ f (get_or xs i d) ∷ []
+taken_more f xs i d h = ap (map f) (take_more xs i d h) ∙ map-append f (take i xs) (get_or xs i d ∷ [])
+
+pub all_of : {X : Type 0} (f : X → Equation) (xs : List X) (i : ℕ) → map f xs ≡ map f (take i xs) ++ map f (drop i xs)
+all_of f xs i = ap (map f) (sym (take-append-drop i xs)) ∙ map-append f (take i xs) (drop i xs)
+
+pub within_taken : {X : Type 0} (f : X → Equation) (n : ℕ) (xs : List X) (i : ℕ) → AreWithin n (map f xs) → AreWithin n (map f (take i xs))
+within_taken f n xs i w = within_left n (map f (take i xs)) (map f (drop i xs)) (subst (AreWithin n) (all_of f xs i) w)

@@ -1,0 +1,7 @@
+use Rattle.std.proofs.Common.{take}
+use Rattle.patr_arena.specs.Arenas.{shown_of}
+use Rattle.patr_library.specs.Built.{AreRulesDealt, numbered}
+use Rattle.patr_library.proofs.building.keep_variants.Given as goal
+
+abbrev pub invariant-loop-variant : goal.invariant-loop-variant
+invariant-loop-variant g l = AreRulesDealt (shown_of l.initial.arena) (shown_of l.arena) (numbered (take l.variant-index l.variants)) l.initial.items.items l.items.items

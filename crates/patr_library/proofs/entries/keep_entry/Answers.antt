@@ -1,0 +1,20 @@
+use Rattle.std.proofs.Common.{◌≡◌, sym, subst, rules, length, Some}
+use Rattle.patr_model.specs.Structure.{Node, arc}
+use Rattle.patr_arena.specs.Arenas.{shown_of}
+use Rattle.patr_expand.specs.Seen.{equations_at}
+use Rattle.patr_library.specs.Own.{IsOwn, own_nodes, own_value}
+use Rattle.patr_library.specs.Solved.{IsLeastAt}
+use Rattle.patr_library.proofs.KeptEntries.{entry_dealt}
+use Rattle.patr_library.proofs.entries.keep_entry.Goals as goal
+
+pub returns : goal.returns
+returns g c =
+    let m = c.in-Some.least in
+    let made = c.in_ok-made.made in
+    let to = c.in_ok-to.to in
+    let least : IsLeastAt 1 (equations_at c.args.equations.now) m.block m.root = search rules in
+    let slot : arc (own_nodes m.block) (Node m.root) 0 ≡ Some (own_value to) = search rules in
+    let own : IsOwn (length m.block) to = search rules in
+    λ x e.
+    entry_dealt (shown_of c.args.arena.now) (shown_of c.store.new.arena) c.args.entry c.args.variant x m.block m.root to made.root.block c.resolve-root.result made.nodes made.arcs c.args.items.now.items c.push.new.self.items c.args.arena.now.lawful
+    (subst (λ es. IsLeastAt 1 es m.block m.root) (sym e) least) c.in_ok-made.ensures.arena c.in_ok-made.ensures.root.0 slot own c.resolve-root.ensures.same c.resolve-root.ensures.held c.in_ok-made.ensures.counts.0 c.in_ok-made.ensures.counts.1 c.in_ok-push.ensures.items

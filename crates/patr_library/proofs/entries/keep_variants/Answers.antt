@@ -1,0 +1,48 @@
+use Rattle.std.proofs.Common.{◌≡◌, ◌∙◌, ◌++◌, ◌∷◌, [], length, length-append, map, refl, sym, ap, subst, rules, arith, append_assoc, append-nil}
+use Rattle.std.specs.Vec.Iter.{into_iter_items, into_iter_len}
+use Rattle.patr_arena.specs.Arenas.{shown_of}
+use Rattle.patr_library.specs.Built.{numbered_from}
+use Rattle.patr_library.specs.Entries.{AreEntriesDealt, HasEntryItem, HasNoEntry, StaysAlone, variant_of}
+use Rattle.patr_library.proofs.Keeping.{none_dealt, one_dealt}
+use Rattle.patr_library.proofs.KeptEntries.{among, entry_still, nothing_left, variant_more}
+use Rattle.patr_library.proofs.entries.keep_variants.Goals as goal
+
+pub loop-features-init : goal.loop-features-init
+loop-features-init g c =
+    let long : into_iter_len c.into_iter-features-iterator.result ≡ length (into_iter_items c.into_iter-features-iterator.result) = search rules in
+    (refl, none_dealt HasEntryItem HasNoEntry (shown_of c.args.arena.now) c.args.items.now.items, refl, long)
+
+pub keep_variant-requires : goal.keep_variant-requires
+keep_variant-requires g c =
+    let at = c.loop-features in
+    let x = c.in-Some.features in
+    let steps : into_iter_items at.features-iterator ≡ x ∷ into_iter_items c.next.new.self = c.in-Some.ensures.steps.0 in
+    let whole = ap (λ l. at.yielded ++ l) (sym steps) ∙ (at.invariant.0 ∙ c.into_iter-features-iterator.ensures.into_iter_gives.0) in
+    among (StaysAlone c.args.entry.now) at.yielded (into_iter_items c.next.new.self) x c.args.variants.items whole c.requires
+
+pub loop-features-preserved : goal.loop-features-preserved
+loop-features-preserved g c =
+    let at = c.loop-features in
+    let x = c.in-Some.features in
+    let v = shown_of c.args.arena.now in
+    let u = shown_of c.keep_variant.new.arena in
+    let f = variant_of c.args.entry.now in
+    let ds = numbered_from c.args.number 0 (map f at.yielded) in
+    let steps : into_iter_items at.features-iterator ≡ x ∷ into_iter_items c.next.new.self = c.in-Some.ensures.steps.0 in (
+      append_assoc at.yielded (x ∷ []) _ ∙ rw (← steps) at.invariant.0,
+      subst (λ l. AreEntriesDealt v u l c.args.items.now.items c.keep_variant.new.items.items) (sym (variant_more f c.args.number at.variant at.yielded x at.invariant.2))
+          (one_dealt HasEntryItem HasNoEntry entry_still v (shown_of at.arena) u ds (c.args.number, at.variant, f x) c.args.items.now.items at.items.items c.keep_variant.new.items.items at.invariant.1 c.in_ok-keep_variant.ensures),
+      search (rules, length-append),
+      let was = at.invariant.3 in
+          let gone = c.in-Some.ensures.steps.1 in
+          let short = ap length steps in
+          omega arith,
+    )
+
+pub returns : goal.returns
+returns g c =
+    let at = c.loop-features in
+    let none = c.in-None.ensures.steps in
+    let empty : into_iter_items at.features-iterator ≡ [] = nothing_left _ (sym at.invariant.3 ∙ none.0) in
+    let all = sym (append-nil at.yielded) ∙ rw empty at at.invariant.0 ∙ c.into_iter-features-iterator.ensures.into_iter_gives.0 in
+    subst (λ l. AreEntriesDealt (shown_of c.args.arena.now) (shown_of at.arena) (numbered_from c.args.number 0 (map (variant_of c.args.entry.now) l)) c.args.items.now.items at.items.items) all at.invariant.1

@@ -1,0 +1,30 @@
+use Rattle.std.proofs.Common.{◌∙◌, ap, map, subst}
+use Rattle.patr_model.specs.Build.{in_lexicon}
+use Rattle.patr_arena.specs.Arenas.{shown_of}
+use Rattle.patr_library.specs.Built.{AreRulesDealt, all_numbered, variants_of}
+use Rattle.patr_library.specs.Entries.{AreEntriesDealt, entry_variants_of}
+use Rattle.patr_library.proofs.Merged.{has_items, fault_is}
+use Rattle.patr_library.proofs.making.all_items.Goals as goal
+
+pub returns-clause-items : goal.returns-clause-items
+returns-clause-items g c =
+    let grammar = c.args.grammar.now in
+    let l = c.args.lexicon.now in
+    let u = shown_of c.new-arena.result in
+    let v = shown_of c.keep_rules.new.arena in
+    let w = shown_of c.keep_entries.new.arena in
+    let rules = c.keep_rules.new.items.items in
+    let entries = c.keep_entries.new.items.items in
+    has_items grammar l u v w rules entries c.keep_entries.new.arena.lawful
+    (subst (λ xs. AreRulesDealt u v (all_numbered 0 (map variants_of grammar.rules.items)) xs rules) c.new-rules.ensures.items c.in_default.ensures.dealt)
+    (subst (λ xs. AreEntriesDealt v w (all_numbered 0 (map entry_variants_of l)) xs entries) c.new-entries.ensures.items c.in_default-keep_entries.ensures.dealt)
+
+pub returns-clause-faultless : goal.returns-clause-faultless
+returns-clause-faultless g c =
+    fault_is c.args.grammar.now c.args.lexicon.now c.in_default.ensures.faultless ∙ ap in_lexicon c.in_default-keep_entries.ensures.faultless
+
+pub returns-in-Err-clause-refused : goal.returns-in-Err-clause-refused
+returns-in-Err-clause-refused g c = c.in_grammar.ensures c.args.grammar.now c.args.lexicon.now c.in-Err.ensures.refused
+
+pub returns-in-Err-keep_entries-clause-refused : goal.returns-in-Err-keep_entries-clause-refused
+returns-in-Err-keep_entries-clause-refused g c = c.in_lexicon.ensures c.args.grammar.now c.args.lexicon.now c.in_default.ensures.faultless c.in-Err-keep_entries.ensures.refused

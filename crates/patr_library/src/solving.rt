@@ -1,0 +1,119 @@
+//! The least value of equations over slots.
+ghost use Rattle.std.specs.Prelude.{◌≡◌, ◌<◌, ◌++◌, ◌∷◌, [], ℕ, List, None, Some, IfOk, IfSome, IfNone, length};
+ghost use Rattle.patr_model.specs.Variants.{AreWithin};
+ghost use Rattle.patr_arena.specs.declared.value.Ref.TheVariants as ref;
+ghost use Rattle.patr_model.specs.Equation as model;
+ghost use Rattle.patr_expand.specs.Seen.{equation_at, equations_at};
+ghost use Rattle.patr_library.specs.Own.{IsRooted};
+ghost use Rattle.patr_library.specs.Solved.{HasNone, IsLeastAt, IsUnified, TakeNone};
+
+use crate::copying::{compact, push};
+use crate::stating::{Rooted, statement, top};
+use patr_arena::{Addr, Block, Feature, Id, Memory, Nodes, PlainArena, Ref, Value};
+use patr_expand::Equation;
+use patr_scratch::Scratch;
+use patr_unify::{Steps, unify_at};
+use std::alloc::{AllocError, Global};
+use std::sync::ledger::Ledger;
+
+/// A block without old addresses, and a node of it.
+#[derive(Drop)]
+pub(crate) struct Least {
+    pub(crate) block: Block,
+    pub(crate) root: u32,
+}
+
+/// The node of as many unspecified slots.
+fn blank(alloc: Global, slots: u32) -> Result<Least, Memory>
+    ensures { IfOk result (λ made. IsLeastAt slots [] made.block made.root) }
+{
+    let mut block = Block::new(alloc);
+    let mut arcs = Vec::new(alloc);
+    for slot in 0..slots {
+        let offset = top(&mut block, &[])?;
+        arcs.push(Feature {
+            attribute: Id(slot),
+            to: Ref::New(offset),
+        })?;
+    }
+    let root = top(&mut block, &arcs)?;
+    Ok(Least { block, root })
+}
+
+/// The unifier of both, in one block.
+fn unified<L: Ledger>(
+    alloc: Global,
+    left: Least,
+    right: Rooted,
+    scratch: &mut Scratch,
+    steps: &mut Steps<L>,
+) -> Result<Option<Least>, Memory>
+    requires left { IsRooted left.block (ref.New left.root) }
+    requires right { IsRooted right.block right.root }
+    ensures some { IfOk result (λ found. IfSome found (λ made. IsUnified left.block left.root right.block right.root made.block made.root)) }
+    ensures none { IfOk result (λ found. IfNone found (TakeNone left.block left.root right.block right.root)) }
+{
+    let mut arena = PlainArena::new(alloc);
+    let mut places = Vec::new(alloc);
+    let first = push(&mut arena, &mut places, left.block)?;
+    let at = Addr {
+        block: first,
+        offset: left.root,
+    };
+    let second = push(&mut arena, &mut places, right.block)?;
+    let to = arena.resolve(second, right.root);
+    let Some(made) = unify_at(alloc, &arena, at, &[], to, scratch, steps)? else {
+        return Ok(None);
+    };
+    let third = push(&mut arena, &mut places, made.block)?;
+    let whole = arena.resolve(third, made.root);
+    let copy = compact(alloc, &arena, &places, whole)?;
+    let Ref::New(root) = copy.root else {
+        return Err(AllocError);
+    };
+    Ok(Some(Least {
+        block: copy.block,
+        root,
+    }))
+}
+
+/// The least value with one more equation.
+fn with_equation<L: Ledger>(
+    alloc: Global,
+    so_far: Least,
+    equation: &Equation,
+    scratch: &mut Scratch,
+    steps: &mut Steps<L>,
+) -> Result<Option<Least>, Memory>
+    requires { IsRooted so_far.block (ref.New so_far.root) }
+    ensures some { (slots : ℕ) (es : List model.Equation) → IsLeastAt slots es so_far.block so_far.root → AreWithin slots (es ++ equation_at equation.now ∷ []) → IfOk result (λ found. IfSome found (λ made. IsLeastAt slots (es ++ equation_at equation.now ∷ []) made.block made.root)) }
+    ensures none { (slots : ℕ) (es : List model.Equation) → IsLeastAt slots es so_far.block so_far.root → AreWithin slots (es ++ equation_at equation.now ∷ []) → IfOk result (λ found. IfNone found (HasNone slots (es ++ equation_at equation.now ∷ []))) }
+{
+    let Some(stated) = statement(alloc, equation)? else {
+        return Ok(None);
+    };
+    let made = unified(alloc, so_far, stated, scratch, steps)?;
+    Ok(made)
+}
+
+/// The least value of slots at which the equations hold, or `None` where no structure has one.
+pub(crate) fn solved<L: Ledger>(
+    alloc: Global,
+    slots: u32,
+    equations: &[Equation],
+    scratch: &mut Scratch,
+    steps: &mut Steps<L>,
+) -> Result<Option<Least>, Memory>
+    requires { AreWithin slots (equations_at equations.now) }
+    ensures some { IfOk result (λ found. IfSome found (λ made. IsLeastAt slots (equations_at equations.now) made.block made.root)) }
+    ensures none { IfOk result (λ found. IfNone found (HasNone slots (equations_at equations.now))) }
+{
+    let mut so_far = blank(alloc, slots)?;
+    for equation in equations {
+        let Some(next) = with_equation(alloc, so_far, equation, scratch, steps)? else {
+            return Ok(None);
+        };
+        so_far = next;
+    }
+    Ok(Some(so_far))
+}
