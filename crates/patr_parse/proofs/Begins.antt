@@ -1,0 +1,42 @@
+-- What the first edges come to, under a limit.
+use Rattle.std.proofs.Common.{◌≡◌, ℕ, true, false, List, [], ◌++◌, length, length-append, sym, ap, arith, subst}
+use Rattle.patr_model.specs.Chart.{HasMoreThan}
+use Rattle.patr_arena.specs.Shown.{Shown}
+use Rattle.patr_chart.specs.declared.edge.Edge.{Edge}
+use Rattle.patr_library.specs.Stored.{Stored, IsStored, rules_of}
+use Rattle.patr_parse.specs.declared.prediction.Mark.{Mark}
+use Rattle.patr_parse.specs.Found.{AreSound}
+use Rattle.patr_parse.specs.Tasks.{judge}
+use Rattle.patr_parse.specs.Standing.{Stands}
+use Rattle.patr_parse.specs.Begun.{leaves_from, begun_at, HasMark, ArePushed}
+use Rattle.patr_parse.specs.Predicting.{ArePredicted, IsMarked}
+use Rattle.patr_parse.proofs.Added.{sound_new}
+use Rattle.patr_parse.proofs.Pushed.{Behind, behind_append, behind_length}
+use Rattle.patr_parse.proofs.First.{first_trees, first_passed, stands_first, first_predicted}
+
+module _ (s : Stored) (stored : IsStored s) (ws : List ℕ) (v : Shown) (limit : ℕ) (old mid : List Edge) (empty : old ≡ []) where
+  -- there is no room for the leaves
+  pub words_passed : ArePushed (rules_of s) s v limit old (leaves_from s 0 ws) mid false → HasMoreThan (judge s) (rules_of s) ws limit
+  words_passed h = first_passed s stored ws limit (omega (arith, h, ap length empty, length-append (leaves_from s 0 ws) (begun_at s (rules_of s).start 0)))
+
+  module _ (words : ArePushed (rules_of s) s v limit old (leaves_from s 0 ws) mid true) (c : ℕ) (is : c ≡ (rules_of s).start) (new : List Edge) where
+    -- there is no room for the rules
+    pub start_passed : ArePushed (rules_of s) s v limit mid (begun_at s c 0) new false → HasMoreThan (judge s) (rules_of s) ws limit
+    start_passed h =
+        let before = behind_length (rules_of s) s v old mid (leaves_from s 0 ws) (words.0, words.1, words.2) in
+        first_passed s stored ws limit (omega (arith, h, before, ap length empty, ap (λ x. length (begun_at s x 0)) is, length-append (leaves_from s 0 ws) (begun_at s (rules_of s).start 0)))
+
+    module _ (rules : ArePushed (rules_of s) s v limit mid (begun_at s c 0) new true) where
+      both : Behind (rules_of s) s v [] (first_trees s stored ws) new
+      both = subst (λ l. Behind (rules_of s) s v l (first_trees s stored ws) new) empty
+          (subst (λ x. Behind (rules_of s) s v old (leaves_from s 0 ws ++ begun_at s x 0) new) is
+          (behind_append (rules_of s) s v old mid (leaves_from s 0 ws) (begun_at s c 0) rules.0 new (words.0, words.1, words.2) rules.1 rules.2))
+
+      pub begin_stands : Stands (judge s) (rules_of s) ws new 0 []
+      begin_stands = subst (λ l. Stands (judge s) (rules_of s) ws l 0 []) (sym both.1) (stands_first s stored ws v both.0 both.2)
+
+      pub begin_sound : AreSound (rules_of s) s v new
+      begin_sound = subst (λ l. AreSound (rules_of s) s v l) (sym both.1) (sound_new (rules_of s) s v [] both.0 (first_trees s stored ws) both.2 (λ k e h. cc))
+
+      pub begin_predicted : (marks : List Mark) → HasMark [] marks (rules_of s).start 0 → ArePredicted s ws (IsMarked marks) 0 new
+      begin_predicted marks h = subst (λ l. ArePredicted s ws (IsMarked marks) 0 l) (sym both.1) (first_predicted s stored ws v both.0 both.2 marks h)

@@ -1,0 +1,78 @@
+-- What a round needs is there: before it, and after more edges were predicted.
+use Rattle.std.proofs.Common.{◌≡◌, inl, inr, ℕ, ◌<◌, ◌≤◌, List, [], ◌∷◌, ◌++◌, length, take, refl, sym, ap, ◌∙◌, arith, subst}
+use Rattle.std.proofs.lemmas.List.{take-append-le}
+use Rattle.patr_model.specs.Derivation.{Rules, Derivation, Leaf, Begin, Extend, size}
+use Rattle.patr_model.specs.Chart.{Judgement, IsIn}
+use Rattle.patr_model.specs.Renaming.{Each}
+use Rattle.patr_model.proofs.Rounds.{in_left, in_either}
+use Rattle.patr_arena.specs.Shown.{Shown}
+use Rattle.patr_arena.specs.Blocks.{Extends}
+use Rattle.patr_arena.proofs.Showing.{still_held}
+use Rattle.patr_chart.specs.declared.edge.Edge.{Edge}
+use Rattle.patr_chart.specs.declared.edge.EdgeKind.{EdgeKind}
+use Rattle.patr_chart.specs.declared.edge.EdgeKind.TheVariants.{Entry, Rule}
+use Rattle.patr_chart.specs.Charted.{alone, derivations}
+use Rattle.patr_library.specs.Stored.{Stored, IsStored}
+use Rattle.patr_parse.specs.declared.prediction.Prediction.{Prediction}
+use Rattle.patr_parse.specs.Found.{AreSound}
+use Rattle.patr_parse.specs.Tasks.{AreSmall, IsReady, ItemsAreHeld}
+use Rattle.patr_parse.specs.Standing.{Stands, IsGrown}
+use Rattle.patr_parse.specs.Begun.{IsAloneEdge}
+use Rattle.patr_parse.specs.Predicting.{IsMarked, IsPrediction}
+use Rattle.patr_parse.proofs.Tasks.{trees_length}
+use Rattle.patr_parse.proofs.Standing.{once_left}
+use Rattle.patr_parse.proofs.Added.{derivations_new, sound_new, each_is, alones, alone_edge}
+use Rattle.patr_parse.proofs.Items.{rule_item}
+use Rattle.patr_parse.proofs.Predicting.{predicted_grown}
+
+in_long : (ts : List Derivation) (t : Derivation) → IsIn ts t → 0 < length ts
+in_long [] t h = absurd h
+in_long (u ∷ ts) t h = omega arith
+
+-- no pair was worked
+pub small_first : (j : Judgement) (g : Rules) (ws : List ℕ) (limit : ℕ) (es : List Edge) → Stands j g ws es 0 [] → length es ≤ limit → AreSmall limit (derivations es)
+small_first j g ws limit es s few t h = go t h
+  where
+    go : (t : Derivation) → IsIn (derivations es) t → size t ≤ limit
+    go (Leaf e k i i') h = omega (arith, in_long (derivations es) (Leaf e k i i') h, trees_length es, few)
+    go (Begin r k i) h = omega (arith, in_long (derivations es) (Begin r k i) h, trees_length es, few)
+    go (Extend a p) h = absurd (s.worked.made a p (in_left (derivations es) [] (Extend a p) h)).0
+
+pub ready : (j : Judgement) (g : Rules) (s : Stored) (v : Shown) (ws : List ℕ) (limit : ℕ) (es : List Edge) (k : ℕ) → Stands j g ws es k [] → AreSound g s v es → ItemsAreHeld s v → AreSmall limit (derivations es) → IsReady g s v limit es
+ready j g s v ws limit es k stands sound items small = record { fit = stands.fit; once = once_left (derivations es) [] stands.worked.once; sound = sound; items = items; small = small }
+
+-- the roots of the items are there where all that the library shows is
+pub items_there : (s : Stored) → IsStored s → (v : Shown) → Extends s.shown v → ItemsAreHeld s v
+items_there s stored v e n item at = still_held s.shown v e item.root.block item.root.offset (rule_item s stored n item at).held
+
+-- predictions stay where edges that are made of two are added
+pub predictions_stay : (s : Stored) (ws : List ℕ) (p : Prediction) (old new : List Edge) → IsGrown old new → IsPrediction s ws p old → IsPrediction s ws p new
+predictions_stay s ws p old new grown h =
+    subst (λ l. IsPrediction s ws p l) (sym grown.1) (predicted_grown s ws (IsMarked p.marks.keys) p.seen old grown.0 (sym (ap derivations grown.1) ∙ grown.2) grown.3 h)
+
+alone_small : (e : Edge) → size (alone_edge e) ≡ 1
+alone_small e = go e.kind
+  where
+    go : (k : EdgeKind) → size (alone k e) ≡ 1
+    go (Entry f v) = refl
+    go (Rule r v i n m) = refl
+
+alones_small : (ys : List Edge) (t : Derivation) → IsIn (alones ys) t → size t ≡ 1
+alones_small [] t h = absurd h
+alones_small (y ∷ ys) t (inl q) = ap size (sym q) ∙ alone_small y
+alones_small (y ∷ ys) t (inr h) = alones_small ys t h
+
+module _ (j : Judgement) (g : Rules) (s : Stored) (v : Shown) (ws : List ℕ) (limit : ℕ) (es ys : List Edge) (ts : List Derivation) (each : Each (IsAloneEdge g s v) ts ys) where
+  -- more edges without daughters
+  pub ready_more : (k : ℕ) → Stands j g ws (es ++ ys) k [] → length (es ++ ys) ≤ limit → IsReady g s v limit es → IsReady g s v limit (es ++ ys)
+  ready_more k stands few r = ready j g s v ws limit (es ++ ys) k stands (sound_new g s v es ys ts each r.sound) r.items small
+    where
+      small : AreSmall limit (derivations (es ++ ys))
+      small t h = elim (in_either (derivations es) ts t (subst (λ l. IsIn l t) (derivations_new g s v es ys ts each) h)) [
+        | inl old ↦ r.small t old
+        | inr new ↦ (let one = alones_small ys t (subst (λ l. IsIn l t) (sym (each_is g s v ts ys each)) new) in omega (arith, one, few, in_long (derivations (es ++ ys)) t h, trees_length (es ++ ys)))
+      ]
+
+  -- the derivations of the first edges stay
+  pub front_stays : (k : ℕ) → k ≤ length es → take k (derivations (es ++ ys)) ≡ take k (derivations es)
+  front_stays k h = ap (λ l. take k l) (derivations_new g s v es ys ts each) ∙ take-append-le k (derivations es) ts (omega (arith, h, trees_length es))

@@ -1,0 +1,148 @@
+-- The passive edges of the start symbol over all the words are the analyses.
+use Rattle.std.proofs.Common.{◌≡◌, ℕ, zero, suc, Bool, true, false, cond, ◌&&◌, nat_eq, eqb-true, eq-eqb, List, [], ◌∷◌, length, take, Option, Some, None, option_and_then, slice_get, refl, sym, ap, ◌∙◌, arith, subst}
+use Rattle.patr_model.specs.Structure as structure
+use Rattle.patr_model.specs.Structure.{Value, Atom, Node, Structure}
+use Rattle.patr_model.specs.Category.{atom_of, atom_at}
+use Rattle.patr_model.specs.Derivation.{Rules, Derivation, Begin, rule_variant}
+use Rattle.patr_model.specs.Chart.{InChart, word, first, predicted, extended, IsChart, IsDerivation, IsAnalysis}
+use Rattle.patr_model.specs.Solution.{IsSolvable, IsLeastValue}
+use Rattle.patr_model.specs.Solved.{solved}
+use Rattle.patr_model.specs.Laws.{HaveLeastValues}
+use Rattle.patr_model.proofs.Categories.{least_into}
+use Rattle.patr_model.proofs.Prediction.{atoms_stay}
+use Rattle.patr_model.proofs.Variants.{variant_steps}
+use Rattle.patr_arena.specs.Shown.{Shown, value_of}
+use Rattle.patr_chart.specs.declared.edge.EdgeKind.{EdgeKind}
+use Rattle.patr_chart.specs.declared.edge.EdgeKind.TheVariants.{Entry, Rule}
+use Rattle.patr_chart.specs.declared.edge.Edge.{Edge}
+use Rattle.patr_chart.specs.Edges.{is_passive}
+use Rattle.patr_chart.specs.Charted.{IsAlone, HasOrigin, AreEdges, derivations, starts_at, tree}
+use Rattle.patr_chart.specs.Laws.{KindFits, KindsFit, IsJudged}
+use Rattle.patr_chart.proofs.Trees.{get_below, from_length, tree_of}
+use Rattle.patr_chart.proofs.Shown.{is_judged}
+use Rattle.patr_library.specs.declared.item.RuleItem.{RuleItem}
+use Rattle.patr_library.specs.Stored.{Stored, HasItems, IsRuleItem, keys, root_of}
+use Rattle.patr_parse.specs.Found.{AreSound, IsOfItem}
+use Rattle.patr_parse.specs.Analyses.{is_atom, has_category, is_whole}
+use Rattle.patr_parse.proofs.Members.{all_get, all_there, element_at, place_of}
+
+pub trees_length : (es : List Edge) → length (derivations es) ≡ length es
+trees_length es = omega (arith, from_length [] es)
+
+both : (b c : Bool) → b && c ≡ true → (b ≡ true) × (c ≡ true)
+both true c h = (refl, h)
+both false c h = cc
+
+start_says : (e : Edge) → starts_at 0 e ≡ true → (is_passive e ≡ true) × (e.start ≡ 0)
+start_says e h = go (is_passive e) refl h
+  where
+    go : (b : Bool) → is_passive e ≡ b → cond b (nat_eq e.start 0) false ≡ true → (is_passive e ≡ true) × (e.start ≡ 0)
+    go true q t = (q, eqb-true e.start 0 t)
+    go false q t = cc
+
+start_passes : (e : Edge) → is_passive e ≡ true → e.start ≡ 0 → starts_at 0 e ≡ true
+start_passes e p z = ap (λ b. cond b (nat_eq e.start 0) false) p ∙ eq-eqb e.start 0 z
+
+-- an atom that is found stands there
+atom_there : (c : ℕ) (o : Option Value) → is_atom c (option_and_then atom_of o) ≡ true → o ≡ Some (Atom c)
+atom_there c None h = cc
+atom_there c (Some (Atom d)) h = ap (λ x. Some (Atom x)) (eqb-true d c h)
+atom_there c (Some (Node n)) h = cc
+
+module _ (g : Rules) (cat : ℕ) (ws : List ℕ) where
+  pub chart_derivation : (t : Derivation) → InChart (solved g cat) g ws t → IsDerivation g ws t
+  chart_derivation t (word e k i i' entry q w n edge) = (entry, q, w, n)
+  chart_derivation t (first r k rule q c edge) = (rule, q)
+  chart_derivation t (predicted a r k i h part q edge may) = let solves = edge.2.solves in (solves.0, solves.1)
+  chart_derivation t (extended a p h part hp full q edge) = (chart_derivation a h, chart_derivation p hp, part, full, q)
+
+  pub chart_solvable : (t : Derivation) → InChart (solved g cat) g ws t → IsSolvable g t
+  chart_solvable t (word e k i i' entry q w n edge) = edge
+  chart_solvable t (first r k rule q c edge) = edge
+  chart_solvable t (predicted a r k i h part q edge may) = edge
+  chart_solvable t (extended a p h part hp full q edge) = edge
+
+module _ (g : Rules) (s : Stored) (items : HasItems g s.shown s.rules s.entries) where
+  -- an item without daughters fits
+  kind_fits : (k : EdgeKind) (e : Edge) → IsOfItem s k → IsAlone k e → KindFits g k
+  kind_fits (Entry f w) e i a = tt
+  kind_fits (Rule r w item n m) e i a =
+      let q = all_there (IsRuleItem g s.shown) s.rules item i.0 items.rule_items i.1 in (
+        q.variant,
+        ap (λ x. rule_variant g x w) (sym i.2) ∙ (ap (λ x. rule_variant g i.0.rule x) (sym i.3) ∙ q.is),
+        omega (arith, i.4, q.slots),
+        omega (arith, a.0),
+      )
+
+  module _ (r k i : ℕ) (item : RuleItem) (q : IsRuleItem g s.shown item) (is : rule_variant g r k ≡ Some q.variant) where
+    item_least : (m : ℕ) → item.slots ≡ m → (M : Structure) × (x : Value) × IsLeastValue g (Begin r k i) M x
+    item_least zero z =
+        let c = variant_steps.complete g r k i q.variant s.shown.structure (root_of s.shown item) is (q.variant, is, omega (arith, z, q.slots)) q.least in
+        (s.shown.structure, c.0, c.2)
+    item_least (suc m) z =
+        (s.shown.structure, root_of s.shown item, variant_steps.partial g r k i q.variant s.shown.structure (root_of s.shown item) is (q.variant, is, omega (arith, z, q.slots)) q.least)
+
+  -- each rule variant that has a solution has a least value
+  rule_least : (r k i : ℕ) → IsSolvable g (Begin r k i) → (M : Structure) × (x : Value) × IsLeastValue g (Begin r k i) M x
+  rule_least r k i sol =
+      let n = items.every_rule r k i sol in
+      let q = all_there (IsRuleItem g s.shown) s.rules n.0 n.1 items.rule_items n.2 in
+      let is : rule_variant g r k ≡ Some q.variant = ap (λ x. rule_variant g x k) (sym n.3) ∙ (ap (λ x. rule_variant g n.1.rule x) (sym n.4) ∙ q.is) in
+      item_least r k i n.1 q is n.1.slots refl
+
+  module _ (v : Shown) (words : ℕ) (es : List Edge) (all : AreEdges words es) (sound : AreSound g s v es) where
+    fit : KindsFit g es
+    fit k e at back = kind_fits e.kind e (sound k e at).item (subst (λ o. HasOrigin (take k es) e o) back (all k e at).origin)
+
+    judged : (k : ℕ) (e : Edge) → slice_get es k ≡ Some e → IsJudged g (tree es k) e
+    judged k e at = is_judged words es all g fit k e at
+
+    module _ (cat : ℕ) (ws : List ℕ) (chart : IsChart (solved g cat) g ws (derivations es)) where
+      in_chart : (k : ℕ) (e : Edge) → slice_get es k ≡ Some e → InChart (solved g cat) g ws (tree es k)
+      in_chart k e at = all_get (InChart (solved g cat) g ws) (derivations es) k (Begin 0 0 0) chart.edges (omega (arith, trees_length es, get_below es k e at))
+
+      pub edge_of_tree : (t : Derivation) → InChart (solved g cat) g ws t → (k : ℕ) × (e : Edge) × (slice_get es k ≡ Some e) × (tree es k ≡ t)
+      edge_of_tree t h =
+          let p = place_of (derivations es) (Begin 0 0 0) t (chart.every t h) in
+          let e = element_at es p.0 (omega (arith, trees_length es, p.1)) in
+          (p.0, e.0, e.1, p.2)
+
+      pub have_least : HaveLeastValues g cat ws
+      have_least = record {
+        edges = λ t h.
+            let e = edge_of_tree t h in
+            (v.structure, value_of v e.1.root, subst (λ u. IsLeastValue g u v.structure (value_of v e.1.root)) e.3 (sound e.0 e.1 e.2).value);
+        rules = rule_least;
+      }
+
+      pub edge_is_analysis : cat ≡ keys.cat → (k : ℕ) (e : Edge) → slice_get es k ≡ Some e → is_whole v (length ws) g.start e ≡ true → IsAnalysis (solved g cat) g ws (tree es k)
+      edge_is_analysis is_cat k e at w =
+          let of = tree_of words es all k e at in
+          let parts = both (starts_at 0 e) (nat_eq e.end (length ws) && has_category v e.root g.start) w in
+          let from = start_says e parts.0 in
+          let ends = both (nat_eq e.end (length ws)) (has_category v e.root g.start) parts.1 in
+          record {
+            derivation = chart_derivation g cat ws (tree es k) (in_chart k e at);
+            complete = (judged k e at).passive from.0;
+            start = of.start ∙ from.1;
+            end = of.end ∙ eqb-true e.end (length ws) ends.0;
+            edge = chart_solvable g cat ws (tree es k) (in_chart k e at);
+            whole = (
+              v.structure,
+              value_of v e.root,
+              (sound k e at).value,
+              ap (λ c. structure.at v.structure (value_of v e.root) (c ∷ [])) is_cat ∙ atom_there g.start (structure.at v.structure (value_of v e.root) (keys.cat ∷ [])) ends.1,
+            );
+          }
+
+      pub analysis_passes : cat ≡ keys.cat → (k : ℕ) (e : Edge) → slice_get es k ≡ Some e → IsAnalysis (solved g cat) g ws (tree es k) → is_whole v (length ws) g.start e ≡ true
+      analysis_passes is_cat k e at a =
+          let of = tree_of words es all k e at in
+          let into = least_into g (tree es k) a.whole.0 a.whole.1 v.structure (value_of v e.root) a.whole.2 (sound k e at).value in
+          let there : atom_at v.structure (value_of v e.root) (cat ∷ []) ≡ Some g.start =
+          atoms_stay a.whole.0 a.whole.1 v.structure (value_of v e.root) into (cat ∷ []) g.start (ap (option_and_then atom_of) a.whole.3) in
+          let has : has_category v e.root g.start ≡ true =
+          ap (is_atom g.start) (ap (λ c. atom_at v.structure (value_of v e.root) (c ∷ [])) (sym is_cat) ∙ there) ∙ eq-eqb g.start g.start refl in
+          let ends : nat_eq e.end (length ws) ≡ true = eq-eqb e.end (length ws) (sym of.end ∙ a.end) in
+          ap (λ b. b && (nat_eq e.end (length ws) && has_category v e.root g.start)) (start_passes e ((judged k e at).complete a.complete) (sym of.start ∙ a.start))
+          ∙ (ap (λ b. b && has_category v e.root g.start) ends ∙ has)

@@ -1,0 +1,13 @@
+use Rattle.std.proofs.Common.{◌≡◌, ◌<◌, map, take}
+use Rattle.std.specs.List.{AllByRecursion}
+use Rattle.patr_model.specs.Numbered.{places}
+use Rattle.patr_arena.specs.Views.{view_of}
+use Rattle.patr_chart.specs.Charted.{AreEdges}
+use Rattle.patr_parse.specs.Analyses.{HasKey, edge_of, is_whole}
+use Rattle.patr_parse.proofs.analyses.whole_edges.Given as goal
+
+abbrev pub invariant-loop-number : goal.invariant-loop-number
+invariant-loop-number l =
+    (map edge_of l.found.items ≡ places (is_whole (view_of l.view) l.end l.category.0) 0 (take l.number l.chart.edges))
+    × AllByRecursion (HasKey l.chart.edges) l.found.items
+    × (0 < l.number → AreEdges l.chart.words l.chart.edges)

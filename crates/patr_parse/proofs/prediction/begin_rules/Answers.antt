@@ -1,0 +1,57 @@
+use Rattle.std.proofs.Common.{◌≡◌, ◌<◌, ◌+◌, true, false, length, map, take, refl, ap, ◌∙◌, subst, arith, rules}
+use Rattle.std.proofs.Math.Seq.{take-length}
+use Rattle.patr_arena.specs.Sentences.{sentence_of}
+use Rattle.patr_library.specs.Stored.{rules_of, is_of_mother}
+use Rattle.patr_parse.specs.Begun.{begun, begun_at}
+use Rattle.patr_parse.proofs.Pushed.{Behind, behind_none, behind_next, no_next, after_alone, placed_below}
+use Rattle.patr_parse.proofs.prediction.begin_rules.Goals as goal
+
+pub loop-number-init : goal.loop-number-init
+loop-number-init c = record { pushed = behind_none (rules_of c.args.library.now) c.args.library.now (sentence_of c.args.arena.now) c.args.chart.now.edges; few = c.requires.few; words = refl }
+
+pub begin_edge-requires-clause-number : goal.begin_edge-requires-clause-number
+begin_edge-requires-clause-number c =
+    placed_below (is_of_mother c.args.mother.0) c.args.library.now.rules c.rules_of-number-items.result.now c.rules_of-number-items.ensures c.loop-number.number-index (omega arith)
+
+pub push_within-requires : goal.push_within-requires
+push_within-requires c =
+    let p = c.in_ok-edge.ensures.place in
+    after_alone (rules_of c.args.library.now) c.args.library.now (sentence_of c.args.arena.now) _ c.in_ok-edge.edge c.loop-number.chart.words c.loop-number.chart.edges c.in_ok-edge.ensures.edge
+    (omega (arith, p.0, p.1)) (omega (arith, p.1, c.requires.at, c.loop-number.invariant.words))
+
+pub returns-then-not-branch-clause-pushed : goal.returns-then-not-branch-clause-pushed
+returns-then-not-branch-clause-pushed c =
+    let s = c.args.library.now in
+    let r = rules_of s in
+    let v = sentence_of c.args.arena.now in
+    let ns = c.rules_of-number-items.result.now in
+    let no' : c.in_ok-push_within.field-0 ≡ false = search rules in
+    let full : c.args.limit < length c.args.chart.now.edges + length (begun_at s c.args.mother.0 c.args.at) =
+    subst (λ l. c.args.limit < length c.args.chart.now.edges + length (map (begun s c.args.at) l)) c.rules_of-number-items.ensures
+    (no_next r s v (begun s c.args.at) ns c.loop-number.number-index (omega arith) c.args.limit c.args.chart.now.edges c.loop-number.chart.edges c.loop-number.invariant.pushed (c.in_ok-push_within.ensures.full no')) in
+    full
+
+pub loop-number-preserved : goal.loop-number-preserved
+loop-number-preserved c =
+    let s = c.args.library.now in
+    let r = rules_of s in
+    let v = sentence_of c.args.arena.now in
+    let ns = c.rules_of-number-items.result.now in
+    let done : c.in_ok-push_within.field-0 ≡ true = search rules in
+    let pushed = c.in_ok-push_within.ensures.pushed done in
+    record {
+      pushed = behind_next r s v (begun s c.args.at) ns c.loop-number.number-index (omega arith) c.args.chart.now.edges c.loop-number.chart.edges c.push_within.new.chart.edges c.in_ok-edge.edge c.loop-number.invariant.pushed pushed.0 c.in_ok-edge.ensures.edge;
+      few = pushed.1;
+      words = c.in_ok-push_within.ensures.words ∙ c.loop-number.invariant.words;
+    }
+
+pub returns-clause-pushed : goal.returns-clause-pushed
+returns-clause-pushed c =
+    let s = c.args.library.now in
+    let r = rules_of s in
+    let v = sentence_of c.args.arena.now in
+    let ns = c.rules_of-number-items.result.now in
+    let all : take c.loop-number.number-index ns ≡ ns = ap (λ n. take n ns) (let h : c.loop-number.number-index ≡ length ns = omega arith in h) ∙ take-length ns in
+    let b : Behind r s v c.args.chart.now.edges (begun_at s c.args.mother.0 c.args.at) c.loop-number.chart.edges =
+    subst (λ l. Behind r s v c.args.chart.now.edges (map (begun s c.args.at) l) c.loop-number.chart.edges) (all ∙ c.rules_of-number-items.ensures) c.loop-number.invariant.pushed in
+    (b.0, b.1, b.2, c.loop-number.invariant.few)

@@ -1,0 +1,11 @@
+pub mod Analyses
+pub mod Begun
+pub mod Closing
+pub mod Found
+pub mod Joining
+pub mod Kept
+pub mod Predicting
+pub mod Sentences
+pub mod Standing
+pub mod Tasks
+pub mod Words

@@ -1,0 +1,17 @@
+//! Sentences: the closed chart of a sentence, and its analyses.
+#![tactic(auto)]
+
+mod analyses;
+mod closing;
+mod join;
+mod parse;
+mod parsed;
+mod prediction;
+mod rounds;
+mod sentence;
+mod task;
+
+pub use parse::{ParseCause, parse_alone};
+pub use parsed::Parsed;
+pub use patr_pool::{Gate, OpenGate};
+pub use patr_text::{Fault, Memory};

@@ -1,0 +1,75 @@
+//! Parsing a sentence.
+ghost use Rattle.std.specs.Prelude.{◌≡◌, ◌+◌, ◌<◌, ◌≤◌, length, IfOk, IfErr};
+ghost use Rattle.patr_model.specs.Session.{words_of};
+ghost use Rattle.patr_parse.specs.Sentences.{IsParsed, IsRefusedFor};
+
+use crate::analyses::analyses_of;
+use crate::closing::close;
+use crate::join::Work;
+use crate::parsed::Parsed;
+use crate::sentence::numbers_of;
+use patr_arena::{SentenceArena, View};
+use patr_library::Library;
+use patr_pool::Gate;
+use patr_scratch::Scratch;
+use patr_text::{Fault, Symbols};
+use patr_unify::Steps;
+use std::alloc::Global;
+use std::sync::ledger::Ledger;
+use thiserror::Error;
+
+/// Why a sentence has no chart.
+#[derive(Clone, Copy, Debug, PartialEq, Eq, Error)]
+pub enum ParseCause {
+    /// The sentence has more than 256 words; so many.
+    #[error("more than 256 words ({count})")]
+    TooManyWords { count: u64 },
+    /// This word, counted from 1, has no entry, and those before it have one.
+    #[error("unknown word at {position}")]
+    UnknownWord { position: u32 },
+    /// The closed chart has more edges than the limit, or an edge whose derivation has more nodes.
+    #[error("more than {limit} edges")]
+    TooManyEdges { limit: u32 },
+}
+
+/// The closed chart of a sentence and its analyses, found by one worker. `limit` is the most edges that the chart may
+/// have.
+///
+/// `Fault::Refused` gives the first cause for which the sentence is refused, and `Fault::Memory` says that memory ran out.
+pub fn parse_alone<'a, G: Gate, L: Ledger>(
+    alloc: Global,
+    library: &'a Library,
+    symbols: &Symbols,
+    sentence: &str,
+    limit: u32,
+    gate: &G,
+    steps: &mut Steps<L>,
+) -> Result<Parsed<'a>, Fault<ParseCause>>
+    requires words { 0 < length (words_of sentence.now) }
+    requires limit { (1 ≤ limit) × (limit ≤ 200000) }
+    ensures parsed { IfOk result (λ p. IsParsed library.now symbols.now (words_of sentence.now) limit p) }
+    ensures steps { IfOk result (λ p. steps.new ≡ steps.old + p.decided) }
+    ensures refused { IfErr result (λ fault. IsRefusedFor library.now symbols.now (words_of sentence.now) limit fault) }
+{
+    let numbers = match numbers_of(alloc, library, symbols, sentence) {
+        Ok(numbers) => numbers,
+        Err(fault) => return Err(fault),
+    };
+    // the items are those of the grammar and the lexicon
+    let _rules = library.rules();
+    let mut work = Work {
+        arena: SentenceArena::over(alloc, library.arena()),
+        scratch: Scratch::new(alloc),
+    };
+    let Some(closed) = close(alloc, library, &numbers, limit, &mut work, gate, steps)? else {
+        return Err(Fault::Refused(ParseCause::TooManyEdges { limit }));
+    };
+    let view = View::of(&work.arena);
+    let analyses = analyses_of(alloc, library, &view, &numbers, &closed.chart)?;
+    Ok(Parsed {
+        chart: closed.chart,
+        analyses,
+        arena: work.arena,
+        decided: closed.decided,
+    })
+}

@@ -1,0 +1,339 @@
+//! The edges that need no passive edge: the entries of the words, and the rules that are predicted.
+ghost use Rattle.std.specs.Prelude.{◌≡◌, ℕ, ◌+◌, ◌<◌, ◌≤◌, true, false, List, [], ◌∷◌, ◌++◌, length, map, take, Some, None, IfOk, IfSome, IfNone};
+ghost use Rattle.std.specs.Option.{option_map};
+ghost use Rattle.patr_text.specs.declared.symbols.Id.{Id};
+ghost use Rattle.patr_model.specs.Chart.{HasMoreThan};
+ghost use Rattle.patr_model.specs.Derivation.{Derivation, end};
+ghost use Rattle.patr_model.specs.Rounds.{IsPredicted};
+ghost use Rattle.patr_arena.specs.Sentences.{sentence_of};
+ghost use Rattle.patr_chart.specs.declared.edge.Edge.{Edge};
+ghost use Rattle.patr_chart.specs.Charted.{IsEdgeAfter, derivations, tree};
+ghost use Rattle.patr_library.specs.Stored.{rules_of, IsStored};
+ghost use Rattle.patr_parse.specs.Found.{AreSound};
+ghost use Rattle.patr_parse.specs.Tasks.{judge, IsOver, IsReady};
+ghost use Rattle.patr_parse.specs.Standing.{Stands};
+ghost use Rattle.patr_parse.specs.Begun.{begun, leaf, leaves_at, leaves_from, begun_at, begun_unless, begun_by, next_of, is_marked, HasMark, HasMarkOf, IsAloneEdge, ArePushed};
+ghost use Rattle.patr_parse.specs.Predicting.{IsPrediction};
+
+use crate::join::{next_kind, root_for};
+use patr_arena::{Memory, SentenceArena, Value, resolve_path};
+use patr_chart::{Chart, Edge, EdgeKind};
+use patr_library::Library;
+use patr_text::Id;
+use std::alloc::{AllocError, Global};
+use std::collections::HashSet;
+
+/// The number of the attribute of categories.
+const CATEGORY: Id = Id(33);
+
+/// A category whose rules stand at a position.
+#[derive(Clone, Copy, PartialEq, Eq, Hash)]
+struct Mark {
+    category: u32,
+    at: u32,
+}
+
+/// Which edges of a chart were looked at, and what they predicted.
+#[derive(Drop)]
+pub(crate) struct Prediction {
+    marks: HashSet<Mark>,
+    // how many of the first edges have their predictions
+    seen: u32,
+}
+
+/// Puts an edge behind the others. False where there would be more than the limit.
+fn push_within(chart: &mut Chart, edge: Edge, limit: u32) -> Result<bool, Memory>
+    requires { IsEdgeAfter chart.old.words chart.old.edges edge }
+    ensures pushed { IfOk result (λ done. done ≡ true → (chart.new.edges ≡ chart.old.edges ++ edge ∷ []) × (length chart.new.edges ≤ limit)) }
+    ensures full { IfOk result (λ done. done ≡ false → limit ≤ length chart.old.edges) }
+    ensures words { IfOk result (λ done. chart.new.words ≡ chart.old.words) }
+{
+    if chart.len() >= limit {
+        return Ok(false);
+    }
+    let Ok(_) = chart.push_edge(edge) else {
+        return Err(AllocError);
+    };
+    Ok(true)
+}
+
+/// A rule without daughters.
+fn begin_edge(
+    library: &Library,
+    arena: &SentenceArena<'_>,
+    number: u32,
+    at: u32,
+) -> Result<Edge, Memory>
+    requires number { number < length library.now.rules }
+    requires base { IsOver library.now (sentence_of arena.now) }
+    ensures edge { IfOk result (λ edge. IsAloneEdge (rules_of library.now) library.now (sentence_of arena.now) (begun library.now at number) edge) }
+    ensures place { IfOk result (λ edge. (edge.start ≡ at) × (edge.end ≡ at)) }
+{
+    let item = library.rules()[number as usize];
+    let kind = EdgeKind::Rule {
+        rule: item.rule,
+        variant: item.variant,
+        item: number,
+        seen: 0,
+        slots: item.slots,
+    };
+    let root = root_for(arena, kind, Value::Node(item.root))?;
+    Ok(Edge {
+        kind,
+        start: at,
+        end: at,
+        back: None,
+        root,
+        nodes: item.nodes,
+        arcs: item.arcs,
+        size: 1,
+    })
+}
+
+/// An entry over the word at `at`.
+fn leaf_edge(library: &Library, arena: &SentenceArena<'_>, number: u32, at: u32) -> Edge
+    requires number { number < length library.now.entries }
+    requires base { IsOver library.now (sentence_of arena.now) }
+    requires at { at < 256 }
+    ensures edge { IsAloneEdge (rules_of library.now) library.now (sentence_of arena.now) (leaf library.now at number) result }
+    ensures place { (result.start ≡ at) × (result.end ≡ at + 1) }
+{
+    let item = library.entries()[number as usize];
+    Edge {
+        kind: EdgeKind::Entry {
+            entry: item.entry,
+            variant: item.variant,
+        },
+        start: at,
+        end: at + 1,
+        back: None,
+        root: item.root,
+        nodes: item.nodes,
+        arcs: item.arcs,
+        size: 1,
+    }
+}
+
+/// Adds the rules with this mother at a position. False where there would be more edges than the limit.
+fn begin_rules(
+    library: &Library,
+    arena: &SentenceArena<'_>,
+    mother: Id,
+    at: u32,
+    limit: u32,
+    chart: &mut Chart,
+) -> Result<bool, Memory>
+    requires base { IsOver library.now (sentence_of arena.now) }
+    requires at { at ≤ chart.old.words }
+    requires few { length chart.old.edges ≤ limit }
+    ensures pushed { IfOk result (λ done. ArePushed (rules_of library.now) library.now (sentence_of arena.now) limit chart.old.edges (begun_at library.now mother.0 at) chart.new.edges done) }
+    ensures words { IfOk result (λ done. chart.new.words ≡ chart.old.words) }
+{
+    for number in library.rules_of(mother) {
+        let edge = begin_edge(library, arena, *number, at)?;
+        if !push_within(chart, edge, limit)? {
+            return Ok(false);
+        }
+    }
+    Ok(true)
+}
+
+/// Adds the entries of a word at its place. False where there would be more edges than the limit.
+fn push_leaves(
+    library: &Library,
+    arena: &SentenceArena<'_>,
+    word: Id,
+    at: u32,
+    limit: u32,
+    chart: &mut Chart,
+) -> Result<bool, Memory>
+    requires base { IsOver library.now (sentence_of arena.now) }
+    requires at { at < chart.old.words }
+    requires small { at < 256 }
+    requires few { length chart.old.edges ≤ limit }
+    ensures pushed { IfOk result (λ done. ArePushed (rules_of library.now) library.now (sentence_of arena.now) limit chart.old.edges (leaves_at library.now word.0 at) chart.new.edges done) }
+    ensures words { IfOk result (λ done. chart.new.words ≡ chart.old.words) }
+{
+    for number in library.items_of(word) {
+        if !push_within(chart, leaf_edge(library, arena, *number, at), limit)? {
+            return Ok(false);
+        }
+    }
+    Ok(true)
+}
+
+/// Adds the entries of the words. False where there would be more edges than the limit.
+fn push_words(
+    library: &Library,
+    arena: &SentenceArena<'_>,
+    words: &[Id],
+    limit: u32,
+    chart: &mut Chart,
+) -> Result<bool, Memory>
+    requires base { IsOver library.now (sentence_of arena.now) }
+    requires words { chart.old.words ≡ length words.now }
+    requires few_words { length words.now ≤ 256 }
+    requires few { length chart.old.edges ≤ limit }
+    ensures pushed { IfOk result (λ done. ArePushed (rules_of library.now) library.now (sentence_of arena.now) limit chart.old.edges (leaves_from library.now 0 (map (λ (w : Id). w.0) words.now)) chart.new.edges done) }
+    ensures words { IfOk result (λ done. chart.new.words ≡ chart.old.words) }
+{
+    for (at, word) in words.iter().enumerate() {
+        if !push_leaves(library, arena, *word, at as u32, limit, chart)? {
+            return Ok(false);
+        }
+    }
+    Ok(true)
+}
+
+/// Adds the rules of a category at a position, where that was not done. False where there would be more edges than the
+/// limit.
+fn expect(
+    library: &Library,
+    arena: &SentenceArena<'_>,
+    category: Id,
+    at: u32,
+    limit: u32,
+    chart: &mut Chart,
+    marks: &mut HashSet<Mark>,
+) -> Result<bool, Memory>
+    requires base { IsOver library.now (sentence_of arena.now) }
+    requires at { at ≤ chart.old.words }
+    requires few { length chart.old.edges ≤ limit }
+    ensures pushed { IfOk result (λ done. ArePushed (rules_of library.now) library.now (sentence_of arena.now) limit chart.old.edges (begun_unless (is_marked marks.old.keys category.0 at) library.now category.0 at) chart.new.edges done) }
+    ensures marked { IfOk result (λ _. HasMark marks.old.keys marks.new.keys category.0 at) }
+    ensures words { IfOk result (λ done. chart.new.words ≡ chart.old.words) }
+{
+    let mark = Mark {
+        category: category.0,
+        at,
+    };
+    if marks.insert(mark)? {
+        begin_rules(library, arena, category, at, limit, chart)
+    } else {
+        Ok(true)
+    }
+}
+
+/// The category of the next daughter of edge k; none where no daughter is missing.
+fn next_category(
+    library: &Library,
+    arena: &SentenceArena<'_>,
+    chart: &Chart,
+    k: u32,
+) -> Result<Option<Id>, Memory>
+    requires k { k < length chart.now.edges }
+    requires ready { (limit : ℕ) × IsReady (rules_of library.now) library.now (sentence_of arena.now) limit chart.now.edges }
+    ensures { IfOk result (λ next. option_map (λ (c : Id). c.0) next ≡ next_of (rules_of library.now) (tree chart.now.edges k)) }
+{
+    let edge = chart.edge(k);
+    if edge.is_passive() {
+        return Ok(None);
+    }
+    let Some((_, slot)) = next_kind(edge.kind) else {
+        return Err(AllocError);
+    };
+    match resolve_path(arena, edge.root, &[slot, CATEGORY]) {
+        Some(Value::Atom(category)) => Ok(Some(category)),
+        _ => Err(AllocError),
+    }
+}
+
+/// Adds what edge k predicts. False where there would be more edges than the limit.
+fn follow(
+    library: &Library,
+    arena: &SentenceArena<'_>,
+    k: u32,
+    limit: u32,
+    chart: &mut Chart,
+    marks: &mut HashSet<Mark>,
+) -> Result<bool, Memory>
+    requires k { k < length chart.old.edges }
+    requires base { IsOver library.now (sentence_of arena.now) }
+    requires ready { IsReady (rules_of library.now) library.now (sentence_of arena.now) limit chart.old.edges }
+    requires few { length chart.old.edges ≤ limit }
+    ensures pushed { IfOk result (λ done. ArePushed (rules_of library.now) library.now (sentence_of arena.now) limit chart.old.edges (begun_by marks.old.keys library.now (next_of (rules_of library.now) (tree chart.old.edges k)) (end (tree chart.old.edges k))) chart.new.edges done) }
+    ensures marked { IfOk result (λ done. HasMarkOf marks.old.keys marks.new.keys (next_of (rules_of library.now) (tree chart.old.edges k)) (end (tree chart.old.edges k))) }
+    ensures words { IfOk result (λ done. chart.new.words ≡ chart.old.words) }
+{
+    let Some(category) = next_category(library, arena, chart, k)? else {
+        return Ok(true);
+    };
+    let at = chart.edge(k).end;
+    expect(library, arena, category, at, limit, chart, marks)
+}
+
+/// Adds the entries of the words, and the rules of the start symbol. None where there would be more edges than the limit.
+pub(crate) fn begin(
+    alloc: Global,
+    library: &Library,
+    arena: &SentenceArena<'_>,
+    words: &[Id],
+    limit: u32,
+    chart: &mut Chart,
+) -> Result<Option<Prediction>, Memory>
+    requires empty { chart.old.edges ≡ [] }
+    requires base { IsOver library.now (sentence_of arena.now) }
+    requires words { chart.old.words ≡ length words.now }
+    requires few_words { length words.now ≤ 256 }
+    requires stored { IsStored library.now }
+    ensures stands { IfOk result (λ begun. IfSome begun (λ prediction. Stands (judge library.now) (rules_of library.now) (map (λ (w : Id). w.0) words.now) chart.new.edges 0 [])) }
+    ensures sound { IfOk result (λ begun. IfSome begun (λ prediction. AreSound (rules_of library.now) library.now (sentence_of arena.now) chart.new.edges)) }
+    ensures predicted { IfOk result (λ begun. IfSome begun (λ prediction. IsPrediction library.now (map (λ (w : Id). w.0) words.now) prediction chart.new.edges)) }
+    ensures few { IfOk result (λ begun. IfSome begun (λ prediction. length chart.new.edges ≤ limit)) }
+    ensures more { IfOk result (λ begun. IfNone begun (HasMoreThan (judge library.now) (rules_of library.now) (map (λ (w : Id). w.0) words.now) limit)) }
+    ensures words { IfOk result (λ begun. chart.new.words ≡ chart.old.words) }
+{
+    if !push_words(library, arena, words, limit, chart)? {
+        return Ok(None);
+    }
+    let start = library.grammar().start;
+    let mut marks = HashSet::new(alloc);
+    marks.insert(Mark {
+        category: start.0,
+        at: 0,
+    })?;
+    if !begin_rules(library, arena, start, 0, limit, chart)? {
+        return Ok(None);
+    }
+    Ok(Some(Prediction { marks, seen: 0 }))
+}
+
+/// Adds what the edges of the chart predict. False where there would be more edges than the limit.
+pub(crate) fn predict(
+    library: &Library,
+    arena: &SentenceArena<'_>,
+    words: &[Id],
+    limit: u32,
+    chart: &mut Chart,
+    prediction: &mut Prediction,
+) -> Result<bool, Memory>
+    requires base { IsOver library.now (sentence_of arena.now) }
+    requires stored { IsStored library.now }
+    requires stands { (k : ℕ) × Stands (judge library.now) (rules_of library.now) (map (λ (w : Id). w.0) words.now) chart.old.edges k [] }
+    requires ready { IsReady (rules_of library.now) library.now (sentence_of arena.now) limit chart.old.edges }
+    requires predicted { IsPrediction library.now (map (λ (w : Id). w.0) words.now) prediction.old chart.old.edges }
+    requires few { length chart.old.edges ≤ limit }
+    ensures stands { IfOk result (λ done. done ≡ true → (k : ℕ) → Stands (judge library.now) (rules_of library.now) (map (λ (w : Id). w.0) words.now) chart.old.edges k [] → Stands (judge library.now) (rules_of library.now) (map (λ (w : Id). w.0) words.now) chart.new.edges k []) }
+    ensures ready { IfOk result (λ done. done ≡ true → IsReady (rules_of library.now) library.now (sentence_of arena.now) limit chart.new.edges) }
+    ensures complete { IfOk result (λ done. done ≡ true → IsPredicted (judge library.now) (rules_of library.now) (map (λ (w : Id). w.0) words.now) (derivations chart.new.edges)) }
+    ensures predicted { IfOk result (λ done. done ≡ true → IsPrediction library.now (map (λ (w : Id). w.0) words.now) prediction.new chart.new.edges) }
+    ensures kept { IfOk result (λ done. done ≡ true → (ys : List Edge) × (chart.new.edges ≡ chart.old.edges ++ ys) × ((worked : ℕ) → worked ≤ length chart.old.edges → take worked (derivations chart.new.edges) ≡ take worked (derivations chart.old.edges))) }
+    ensures few { IfOk result (λ done. done ≡ true → length chart.new.edges ≤ limit) }
+    ensures more { IfOk result (λ done. done ≡ false → HasMoreThan (judge library.now) (rules_of library.now) (map (λ (w : Id). w.0) words.now) limit) }
+    ensures words { IfOk result (λ done. chart.new.words ≡ chart.old.words) }
+{
+    while prediction.seen < chart.len() {
+        if !follow(
+            library,
+            arena,
+            prediction.seen,
+            limit,
+            chart,
+            &mut prediction.marks,
+        )? {
+            return Ok(false);
+        }
+        prediction.seen += 1;
+    }
+    Ok(true)
+}

@@ -1,0 +1,6 @@
+//! Rounds of tasks.
+#![tactic(auto)]
+
+mod gate;
+
+pub use gate::{Gate, OpenGate};
