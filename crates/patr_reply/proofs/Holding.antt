@@ -1,0 +1,207 @@
+-- The variants of a library name no other symbols than those that the library holds.
+use Rattle.std.proofs.Common.{◌≡◌, ℕ, zero, suc, ◌<◌, ◌≤◌, Bool, true, nat_lt, lt-ltb, ltb-true, List, [], ◌∷◌, ◌++◌, map, Option, Some, None, IfSome, option_map, option_and_then, filter_map, slice_get, refl, sym, ap, ◌∙◌, subst, arith}
+use Rattle.std.specs.List.{AllByRecursion, cons_option}
+use Rattle.std.specs.Option as options
+use Rattle.std.proofs.lemmas.Option.{slice_get-map}
+use Rattle.patr_model.specs.Equation.{Term, PathOf, Equation}
+use Rattle.patr_model.specs.Derivation.{RuleVariant, EntryVariant, entry_variant, rule_variant}
+use Rattle.patr_model.specs.Grammar as model
+use Rattle.patr_model.specs.Grammar.{Row, Rows, Done, One, OneOf, Optional, None', Or, products, variants, variants_of, single, Symbol, WrittenEquation, WrittenTerm, category_equations, placed_term, placed_equation, placed_path, slot_of, rule_variant_of, rule_variants}
+use Rattle.patr_model.specs.Plain.{stated}
+use Rattle.patr_model.specs.Productions.{TermText, AtomText, OfPath, EquationText, FeatureText, Equates, Names, RuleText}
+use Rattle.patr_model.specs.LexiconText.{EntryOf}
+use Rattle.patr_model.specs.Build.{mapped, mapped_of, symbol_of, term_of, equation_of, rule_of, feature_equation, feature_variants, gloss_fact, facts_of, entry_variant_of, entry_variants}
+use Rattle.patr_model.proofs.Maps.{some_inj, and_then_some}
+use Rattle.patr_model.proofs.Members.{all_at, all_append, all_map, all_flat}
+use Rattle.patr_model.proofs.StatedCategories.{everything, every_rule, every_entry}
+use Rattle.patr_text.specs.declared.symbols.Id.{Id}
+use Rattle.patr_lexicon.specs.declared.lexicon.Entry as code
+use Rattle.patr_lexicon.specs.Seen.{entry_seen}
+use Rattle.patr_library.specs.Stored.{Stored, keys, number, grammar_of, entries_of, rules_of}
+use Rattle.patr_reply.specs.Naming.{AllPass, TermPasses, Passes, AreNamed}
+use Rattle.patr_reply.specs.Held.{AllIn, AllInRows, IsBelow, MayBeBelow, SymbolIsHeld, TermIsHeld, EquationIsHeld, FeatureIsHeld, RuleIsHeld, EntryIsHeld, AreHeldBy}
+
+-- ---- rows
+
+module _ {X Y : Type 0} (P : X → Type 0) (Q : Y → Type 0) (f : X → Y) (each : (x : X) → P x → Q (f x)) where
+  mutual
+    row_mapped : (r : Row X) → AllIn P r → AllIn Q (mapped f r)
+    row_mapped Done h = tt
+    row_mapped (One x r) h = (each x h.0, row_mapped r h.1)
+    row_mapped (OneOf rs r) h = (rows_mapped rs h.0, row_mapped r h.1)
+    row_mapped (Optional rs r) h = (rows_mapped rs h.0, row_mapped r h.1)
+
+    rows_mapped : (rs : Rows X) → AllInRows P rs → AllInRows Q (mapped_of f rs)
+    rows_mapped None' h = tt
+    rows_mapped (Or r rs) h = (row_mapped r h.0, rows_mapped rs h.1)
+
+module _ {A Y : Type 0} (P : Y → Type 0) (Q : A → Type 0) (f : A → List (List Y)) (each : (a : A) → Q a → AllByRecursion (AllByRecursion P) (f a)) where
+  products_in : (vs ws : List (List Y)) → AllByRecursion (AllByRecursion P) vs → AllByRecursion (AllByRecursion P) ws → AllByRecursion (AllByRecursion P) (products vs ws)
+  products_in vs ws h k = all_flat (AllByRecursion P) (λ v. map (λ w. v ++ w) ws) (AllByRecursion P) (λ v p. all_map (AllByRecursion P) (λ w. v ++ w) (AllByRecursion P) (λ w q. all_append P v w p q) ws k) vs h
+
+  mutual
+    variants_in : (r : Row A) → AllIn Q r → AllByRecursion (AllByRecursion P) (variants f r)
+    variants_in Done h = (tt, tt)
+    variants_in (One x r) h = products_in (f x) (variants f r) (each x h.0) (variants_in r h.1)
+    variants_in (OneOf rs r) h = products_in (variants_of f rs) (variants f r) (choices_in rs h.0) (variants_in r h.1)
+    variants_in (Optional rs r) h =
+        products_in (variants_of f rs ++ [] ∷ []) (variants f r) (all_append (AllByRecursion P) (variants_of f rs) ([] ∷ []) (choices_in rs h.0) (tt, tt)) (variants_in r h.1)
+
+    choices_in : (rs : Rows A) → AllInRows Q rs → AllByRecursion (AllByRecursion P) (variants_of f rs)
+    choices_in None' h = tt
+    choices_in (Or r rs) h = all_append (AllByRecursion P) (variants f r) (variants_of f rs) (variants_in r h.0) (choices_in rs h.1)
+
+-- ---- rules and entries
+
+-- a number of the table
+abbrev pub below : ℕ → ℕ → Bool
+below n c = nat_lt c n
+
+module _ (n : ℕ) (known : 38 ≤ n) where
+  abbrev test : ℕ → Bool
+  test = below n
+
+  passes : (c : ℕ) → c < n → test c ≡ true
+  passes c h = lt-ltb c n h
+
+  abbrev SymbolPasses : Symbol → Type 0
+  SymbolPasses x = test x.category ≡ true
+
+  abbrev WrittenPasses : WrittenTerm → Type 0
+  WrittenPasses (model.AtomText c) = test c ≡ true
+  WrittenPasses (model.PathText p) = AllPass test p.path
+
+  abbrev EquationPasses : WrittenEquation → Type 0
+  EquationPasses e = AllPass test e.left.path × WrittenPasses e.right
+
+  path_passes : (is : List Id) → AllByRecursion (IsBelow n) is → AllPass test (map number is)
+  path_passes is h = all_map (λ s. test s ≡ true) number (IsBelow n) (λ i b. passes i.0 b) is h
+
+  written_passes : (mother : Id) (e : EquationText Id) → EquationIsHeld n e → EquationPasses (equation_of number mother e)
+  written_passes mother e h = (path_passes e.left.attributes h.0, go e.right h.1)
+    where
+      go : (t : TermText Id) → TermIsHeld n t → WrittenPasses (term_of number mother t)
+      go (AtomText a) k = passes a.0 k
+      go (OfPath p) k = path_passes p.attributes k
+
+  categories_pass : (k : ℕ) (xs : List Symbol) → AllByRecursion SymbolPasses xs → AllByRecursion (Passes test) (category_equations 33 k xs)
+  categories_pass k [] h = tt
+  categories_pass k (x ∷ xs) h = (((passes 33 (omega (arith, known)), tt), h.0), categories_pass (suc k) xs h.1)
+
+  module _ (xs : List Symbol) where
+    placed_passes : (e : WrittenEquation) → EquationPasses e → IfSome (placed_equation xs e) (Passes test)
+    placed_passes e h = go (slot_of xs e.left.head) (placed_term xs e.right) (right e.right h.1)
+      where
+        right : (t : WrittenTerm) → WrittenPasses t → IfSome (placed_term xs t) (TermPasses test)
+        right (model.AtomText c) k = k
+        right (model.PathText p) k = here (slot_of xs p.head)
+          where
+            here : (o : Option ℕ) → IfSome (option_map (λ q. PathOf q) (option_map (λ (m : ℕ). record { slot = m; path = p.path }) o)) (TermPasses test)
+            here None = tt
+            here (Some m) = k
+
+        go : (o : Option ℕ) (u : Option Term) → IfSome u (TermPasses test)
+            → IfSome (option_and_then (λ l. option_map (λ r. record { left = l; right = r }) u) (option_map (λ (m : ℕ). record { slot = m; path = e.left.path }) o)) (Passes test)
+        go None u k = tt
+        go (Some m) None k = tt
+        go (Some m) (Some r) k = (h.0, k)
+
+    all_placed : (es : List WrittenEquation) → AllByRecursion EquationPasses es → AllByRecursion (Passes test) (filter_map (placed_equation xs) es)
+    all_placed [] h = tt
+    all_placed (e ∷ es) h = go (placed_equation xs e) (placed_passes e h.0) (filter_map (placed_equation xs) es) (all_placed es h.1)
+      where
+        go : (o : Option Equation) → IfSome o (Passes test) → (fs : List Equation) → AllByRecursion (Passes test) fs → AllByRecursion (Passes test) (cons_option o fs)
+        go None p fs k = k
+        go (Some f) p fs k = (p, k)
+
+  -- a rule variant's equations pass, and its categories are numbers of the table
+  abbrev RulePasses : RuleVariant → Type 0
+  RulePasses rule = AllByRecursion (Passes test) rule.equations × AllByRecursion (λ c. c < n) rule.categories
+
+  variant_passes : (xs : List Symbol) (es : List WrittenEquation) → AllByRecursion SymbolPasses xs → AllByRecursion EquationPasses es → RulePasses (rule_variant_of 33 xs es)
+  variant_passes xs es h k = (
+    all_append (Passes test) (category_equations 33 0 xs) (filter_map (placed_equation xs) es) (categories_pass 0 xs h) (all_placed xs es k),
+    all_map (λ c. c < n) (λ (x : Symbol). x.category) SymbolPasses (λ x p. ltb-true x.category n p) xs h,
+  )
+
+  rule_passes : (r : RuleText Id) → RuleIsHeld n r → AllByRecursion RulePasses (rule_variants 33 (rule_of number r))
+  rule_passes r h =
+      let w = rule_of number r in
+      let right = row_mapped (SymbolIsHeld n) SymbolPasses (symbol_of number) (λ x b. passes x.category.0 b) r.right h.right in
+      let equations = row_mapped (EquationIsHeld n) EquationPasses (equation_of number r.mother.symbol) (written_passes r.mother.symbol) r.equations h.equations in
+      all_flat RulePasses (λ xs. map (rule_variant_of 33 (w.mother ∷ xs)) (variants single w.equations)) (AllByRecursion SymbolPasses)
+      (λ xs a. all_map RulePasses (rule_variant_of 33 (w.mother ∷ xs)) (AllByRecursion EquationPasses) (λ es b. variant_passes (w.mother ∷ xs) es (passes r.mother.category.0 h.mother, a) b)
+      (variants single w.equations) (variants_in EquationPasses EquationPasses single (λ e q. ((q, tt), tt)) w.equations equations))
+      (variants single w.right) (variants_in SymbolPasses SymbolPasses single (λ x q. ((q, tt), tt)) w.right right)
+
+  stated_pass : (fs : List (ℕ × ℕ)) → AllByRecursion (λ (f : ℕ × ℕ). (test f.0 ≡ true) × (test f.1 ≡ true)) fs → AllByRecursion (Passes test) (stated fs)
+  stated_pass [] h = tt
+  stated_pass (f ∷ fs) h = (((h.0.0, tt), h.0.1), stated_pass fs h.1)
+
+  facts_pass : (e : EntryOf Id) → EntryIsHeld n e → AllByRecursion (λ (f : ℕ × ℕ). (test f.0 ≡ true) × (test f.1 ≡ true)) (facts_of number keys e)
+  facts_pass e h = ((passes 33 (omega (arith, known)), passes e.category.0 h.category), ((passes 34 (omega (arith, known)), passes e.word.0 h.word), gloss e.gloss h.gloss))
+    where
+      gloss : (o : Option Id) → MayBeBelow n o → AllByRecursion (λ (f : ℕ × ℕ). (test f.0 ≡ true) × (test f.1 ≡ true)) (gloss_fact number keys o)
+      gloss None k = tt
+      gloss (Some i) k = ((passes 35 (omega (arith, known)), passes i.0 k), tt)
+
+  feature_passes : (f : FeatureText Id) → FeatureIsHeld n f → AllByRecursion (AllByRecursion (Passes test)) (feature_variants number f)
+  feature_passes (Equates e) h = (((path_passes e.left.attributes h.0, go e.right h.1), tt), tt)
+    where
+      go : (t : TermText Id) → TermIsHeld n t → TermPasses test (feature_equation number (record { left = e.left; right = t })).right
+      go (AtomText a) k = passes a.0 k
+      go (OfPath p) k = path_passes p.attributes k
+  feature_passes (Names w p) h = tt
+
+  abbrev EntryPasses : EntryVariant → Type 0
+  EntryPasses v = AllByRecursion (Passes test) v.equations × (v.chain ≡ [])
+
+  entry_passes : (e : EntryOf Id) → EntryIsHeld n e → AllByRecursion EntryPasses (entry_variants number keys e)
+  entry_passes e h =
+      all_map EntryPasses (entry_variant_of number keys e) (AllByRecursion (Passes test))
+      (λ es a. (all_append (Passes test) (stated (facts_of number keys e)) es (stated_pass (facts_of number keys e) (facts_pass e h)) a, refl))
+      (variants (feature_variants number) e.features) (variants_in (Passes test) (FeatureIsHeld n) (feature_variants number) feature_passes e.features h.features)
+
+  module _ (s : Stored) (held : AreHeldBy n s) where
+    rule_there : (r k : ℕ) (rule : RuleVariant) → rule_variant (rules_of s) r k ≡ Some rule → RulePasses rule
+    rule_there = every_rule number keys (grammar_of s.grammar) (entries_of s.lexicon) RulePasses (RuleIsHeld n) rule_passes held.rules
+
+    entry_there : (e k : ℕ) (entry : EntryVariant) → entry_variant (rules_of s) e k ≡ Some entry → EntryPasses entry
+    entry_there = every_entry number keys (grammar_of s.grammar) (entries_of s.lexicon) EntryPasses (EntryIsHeld n) entry_passes held.entries
+
+    pub are_named : AreNamed test (rules_of s)
+    are_named = record {
+      rules = λ r k rule h. (rule_there r k rule h).0;
+      entries = λ e k entry h. (entry_there e k entry h).0;
+      chains = λ e k entry h. subst (AllByRecursion (AllByRecursion (Passes test))) (sym (entry_there e k entry h).1) tt;
+    }
+
+    pub categories_held : (r k : ℕ) (rule : RuleVariant) → rule_variant (rules_of s) r k ≡ Some rule → AllByRecursion (λ c. c < n) rule.categories
+    categories_held r k rule h = (rule_there r k rule h).1
+
+-- ---- the entry of a variant
+
+-- the variants of an entry have its word and its category
+abbrev pub IsVariantOf : code.Entry → EntryVariant → Type 0
+IsVariantOf x v = (v.category ≡ x.category.0) × (v.word ≡ x.word.0)
+
+pub entry_from : (s : Stored) (e k : ℕ) (v : EntryVariant) → entry_variant (rules_of s) e k ≡ Some v → (x : code.Entry) × (slice_get s.lexicon e ≡ Some x) × IsVariantOf x v
+entry_from s e k v h =
+    let vs = and_then_some (slice_get (rules_of s).entries e) (λ ws. slice_get ws k) v h in
+    let x = found s.lexicon e vs.0 vs.1 in (
+      x.0,
+      x.1,
+      all_at (IsVariantOf x.0) (entry_variants number keys (entry_seen x.0))
+          (all_map (IsVariantOf x.0) (entry_variant_of number keys (entry_seen x.0)) (λ es. Unit {0}) (λ es u. (refl, refl)) (variants (feature_variants number) (entry_seen x.0).features) (everything (variants (feature_variants number) (entry_seen x.0).features)))
+          k v (subst (λ (us : List EntryVariant). slice_get us k ≡ Some v) (sym x.2) vs.2),
+    )
+  where
+    found : (l : List code.Entry) (i : ℕ) (vs : List EntryVariant) → slice_get (map (entry_variants number keys) (entries_of l)) i ≡ Some vs → (x : code.Entry) × (slice_get l i ≡ Some x) × (entry_variants number keys (entry_seen x) ≡ vs)
+    found [] i vs q = cc
+    found (x ∷ l) zero vs q = (x, refl, some_inj (entry_variants number keys (entry_seen x)) vs q)
+    found (x ∷ l) (suc i) vs q = found l i vs q
+
+pub entry_below : (n : ℕ) (s : Stored) → AreHeldBy n s → (e : ℕ) (x : code.Entry) → slice_get s.lexicon e ≡ Some x → (x.category.0 < n) × (x.word.0 < n)
+entry_below n s held e x h =
+    let one = all_at (EntryIsHeld n) (entries_of s.lexicon) held.entries e (entry_seen x) (slice_get-map entry_seen s.lexicon e ∙ ap (options.option_map entry_seen) h) in
+    (one.category, one.word)

@@ -1,0 +1,11 @@
+pub mod Pruned
+pub mod Naming
+pub mod TreeText
+pub mod Mothers
+pub mod LeastTexts
+pub mod Holding
+pub mod Sounding
+pub mod Listing
+pub mod KnownWords
+pub mod Words
+pub mod Reading

@@ -1,0 +1,47 @@
+-- The lines of a reply.
+--     grounds names s         what a session over a library stands on
+--     analysis_lines          the lines of the analyses, by the edges
+use Rattle.std.specs.Prelude.{ℕ, suc, List, [], ◌∷◌, ◌++◌, Bool, true, false, codes, decimal}
+use Rattle.patr_model.specs.Derivation.{Rules}
+use Rattle.patr_model.specs.Text.{Look, canonical, tree_text}
+use Rattle.patr_model.specs.Session.{Numbering, Grounds, State, line}
+use Rattle.patr_arena.specs.Shown.{Shown}
+use Rattle.patr_chart.specs.declared.edge.Edge.{Edge}
+use Rattle.patr_chart.specs.Charted.{tree}
+use Rattle.patr_library.specs.Stored.{Stored, rules_of}
+use Rattle.patr_reply.specs.Sources.{value_at}
+
+-- what a session over a library stands on, under a numbering; no attribute is put first
+abbrev pub grounds : Numbering → Stored → Grounds
+grounds names s = record { names = names; rules = rules_of s; order = [] }
+
+-- how symbols print under a numbering
+abbrev pub look_by : Numbering → Look
+look_by names = record { text = names.text; order = [] }
+
+-- the state of a session
+abbrev pub state_of : ℕ → Bool → Bool → State
+state_of limit features count = record { limit = limit; features = features; count = count }
+
+-- the line of edge k's features, where features are written
+abbrev pub value_line : Look → Shown → List Edge → Bool → ℕ → List ℕ
+value_line l v es false k = []
+value_line l v es true k = line (codes "  " ++ canonical l v.structure (value_at v es k))
+
+-- the line of the tree of edge k, as analysis n
+abbrev pub tree_line : Look → Rules → List Edge → ℕ → ℕ → List ℕ
+tree_line l g es n k = line (decimal n ++ codes " " ++ tree_text l g (tree es k))
+
+-- the lines of one analysis: trees print by the first look, and features by the second
+abbrev pub analysis_text : Look → Look → Rules → Shown → List Edge → Bool → ℕ → ℕ → List ℕ
+analysis_text l m g v es features n k = tree_line l g es n k ++ value_line m v es features k
+
+-- the lines of the analyses with these edges, numbered from n
+abbrev pub analysis_lines : Look → Look → Rules → Shown → List Edge → Bool → ℕ → List ℕ → List ℕ
+analysis_lines l m g v es features n [] = []
+analysis_lines l m g v es features n (k ∷ ks) = analysis_text l m g v es features n k ++ analysis_lines l m g v es features (suc n) ks
+
+-- the line on the number of edges, where it is asked for
+abbrev pub count_line : Bool → ℕ → List ℕ
+count_line false n = []
+count_line true n = line (codes "edges " ++ decimal n)
