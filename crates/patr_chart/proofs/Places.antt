@@ -7,15 +7,7 @@ use Rattle.patr_chart.specs.declared.edge.Edge.{Edge}
 use Rattle.patr_chart.specs.Lists.{Numbers, numbers, with_number}
 use Rattle.patr_chart.specs.Charted.{is_partner, partners_in, partners_of, partners}
 use Rattle.patr_model.specs.Numbered.{places}
-
-pub places_append : {X : Type 0} (test : X → Bool) (i : ℕ) (xs ys : List X) → places test i (xs ++ ys) ≡ places test i xs ++ places test (i + length xs) ys
-places_append test i [] ys = ap (λ n. places test n ys) (omega arith)
-places_append test i (x ∷ xs) ys = go (test x) (places_append test (suc i) xs ys ∙ ap (λ n. places test (suc i) xs ++ places test n ys) (omega arith))
-  where
-    go : (b : Bool) → places test (suc i) (xs ++ ys) ≡ places test (suc i) xs ++ places test (i + length (x ∷ xs)) ys
-        → cond b (i ∷ places test (suc i) (xs ++ ys)) (places test (suc i) (xs ++ ys)) ≡ cond b (i ∷ places test (suc i) xs) (places test (suc i) xs) ++ places test (i + length (x ∷ xs)) ys
-    go true e = ap (λ l. i ∷ l) e
-    go false e = e
+use Rattle.patr_model.proofs.Selected.{places_append}
 
 -- as many of the first as were found below k are those found below k
 pub front : {X : Type 0} (test : X → Bool) (k : ℕ) (es : List X) → take (length (places test 0 (take k es))) (places test 0 es) ≡ places test 0 (take k es)

@@ -14,11 +14,9 @@ use Rattle.patr_model.specs.Build.{build_fault_line}
 use Rattle.patr_model.specs.Renaming.{SameGrounds, IgnoresNumbers}
 use Rattle.patr_model.specs.Openings.{HasOneOpening, HasOneOut}
 use Rattle.patr_model.specs.Notations as stages
-use Rattle.patr_model.specs.Built as notations
-use Rattle.patr_model.specs.Built.{stage}
 use Rattle.patr_model.proofs.Maps.{some_inj}
 use Rattle.patr_model.proofs.Canonical.{least_texts}
-use Rattle.patr_model.proofs.RenamedRuns.{one_session, built_same, stage_same}
+use Rattle.patr_model.proofs.RenamedRuns.{one_session, stage_same}
 
 -- Notations that read, refuse and build one thing, and read nothing that they refuse.
 module _ (notation : Notations) (N : Numbering)
@@ -106,7 +104,7 @@ module _ (notation : Notations) (N : Numbering)
       let e = some_inj h.0 k.0 (sym h.1 ∙ k.1) in
       after_words k.0 files o u (subst (λ z. AfterWords notation N z files o) e h.2) k.2
 
--- ---- the notations that are built
+-- ---- what bytes stand for
 
 -- bytes that are a text stop nowhere
 pub whole_text : (b : List ℕ) (n : ℕ) → IsUtf8 b → StopsUtf8 b n → ⊥
@@ -165,10 +163,6 @@ one_lexicon_fault s b x y f g = f.2 ∙ (ap lexicon_fault_line (go f.0 g.0 f.1 g
     go (LexiconFault.Misread p) (LexiconFault.NotText m) h k = absurd (whole_text b m h.0 k)
     go (LexiconFault.Misread p) (LexiconFault.Misread q) h k = ap (λ z. LexiconFault.Misread z) (sym h.1 ∙ k.1)
 
-pub openings_are_one : HasOneOpening notations.built
-openings_are_one N = one_opening notations.built N (one_grammar stage) (one_grammar_fault stage) (no_grammar_fault stage) (one_lexicon stage) (one_lexicon_fault stage) (no_lexicon_fault stage)
-    (λ g l x y e f r t. absurd r) (λ g l x e s b r. r) (λ g l s s' b c. b ∙ sym c)
-
 -- ---- the session
 
 module _ (notation : Notations) (s : Grounds) (one_more : (st : State) (c : Command) (x y : List ℕ) → notation.lines.more s st c x → notation.lines.more s st c y → x ≡ y) where
@@ -199,10 +193,7 @@ module _ (notation : Notations) (one_more : (s : Grounds) (st : State) (c : Comm
       let same = openings X words files moved.0 k.0 moved.1 k.1 in
       follows_one k.0 input x y e f (subst (λ o. Follows notation o input x e) same moved.2) k.2
 
-pub runs_are_one : HasOneOut notations.built
-runs_are_one = one_out notations.built (λ s st c x y m n. absurd m) openings_are_one built_same
-
--- ---- the notations with path equations
+-- ---- the notations of a stage
 
 module _ (stage : Stage) (forms : LineForms) where
   pub stage_openings : HasOneOpening (stages.notations stage forms)

@@ -21,7 +21,7 @@ module _ {W V : Type 0} (S : W → V → Type 0) where
   -- ---- what stands for a word
 
   -- first words of paths that are asked for alike
-  abbrev SameHead : Head W → Head V → Type 0
+  abbrev pub SameHead : Head W → Head V → Type 0
   SameHead (AmongSymbols xs) (AmongSymbols ys) = Each S xs ys
   SameHead InOrOut InOrOut = Unit {0}
   SameHead AnyAttribute AnyAttribute = Unit {0}
@@ -86,16 +86,16 @@ module _ {T U W V : Type 0} (R : T → U → Type 0) (S : W → V → Type 0) wh
   -- ---- productions
 
   module _ (words : Words T W) (others : Words U V) (same : WordsAgree R S words others) where
-    kind_agrees : (k : Kind) → SameTest R (is_kind words k) (is_kind others k)
+    pub kind_agrees : (k : Kind) → SameTest R (is_kind words k) (is_kind others k)
     kind_agrees k t u r = ap (λ x. nat_eq (kind_number x) (kind_number k)) (same.kind t u r)
 
-    key_agrees : (k : Key) → SameTest R (is_key words k) (is_key others k)
+    pub key_agrees : (k : Key) → SameTest R (is_key words k) (is_key others k)
     key_agrees k t u r = both_agree (kind_agrees Word t u r) (ap (λ x. nat_eq (key_number x) (key_number k)) (same.key t u r))
 
     clause_word_agrees : SameTest R (is_clause_word words) (is_clause_word others)
     clause_word_agrees t u r = either_agrees (either_agrees (either_agrees (key_agrees key.Rule t u r) (key_agrees key.Let t u r)) (key_agrees key.Define t u r)) (key_agrees key.Parameter t u r)
 
-    symbol_agrees : SameTest R (is_symbol words) (is_symbol others)
+    pub symbol_agrees : SameTest R (is_symbol words) (is_symbol others)
     symbol_agrees t u r = both_agree (kind_agrees Word t u r) (ap not (clause_word_agrees t u r))
 
     among_agrees : (a : W) (b : V) → S a b → (xs : List W) (ys : List V) → Each S xs ys → list_any (words.same a) xs ≡ list_any (others.same b) ys
@@ -146,7 +146,7 @@ module _ {T U W V : Type 0} (R : T → U → Type 0) (S : W → V → Type 0) wh
         (bind_agrees (path_agrees h g k what.PathOrAtom ts us e) (λ p q b ts us e. got b e))
         (bind_agrees (one_agrees (kind_agrees Word) what.PathOrAtom ts us e) (λ t u r ts us e. got (same.word t u r) e))
 
-    equation_agrees : (h : Head W) (g : Head V) → SameHead S h g → (w : What) → SameReads R S (SameEquationText S) (equation words h w) (equation others g w)
+    pub equation_agrees : (h : Head W) (g : Head V) → SameHead S h g → (w : What) → SameReads R S (SameEquationText S) (equation words h w) (equation others g w)
     unfolding equation
     equation_agrees h g k w ts us e =
         bind_agrees (path_agrees h g k w ts us e) (λ p q b ts us e.
@@ -169,7 +169,7 @@ module _ {T U W V : Type 0} (R : T → U → Type 0) (S : W → V → Type 0) wh
         bind_agrees (one_agrees (kind_agrees k) w ts us e) (λ _ _ _ ts us e.
         got (b, rows_agree B rs ss c) e)))
 
-    braced_agrees : {X Y : Type 0} {B : X → Y → Type 0} {starts : List T → Bool} {starts' : List U → Bool} {single : Reads T W X} {single' : Reads U V Y} (n : ℕ) (built : Bool)
+    pub braced_agrees : {X Y : Type 0} {B : X → Y → Type 0} {starts : List T → Bool} {starts' : List U → Bool} {single : Reads T W X} {single' : Reads U V Y} (n : ℕ) (built : Bool)
         → SameStart R starts starts' → SameReads R S B single single' → SameReads R S (SameItem B) (braced words n built starts single) (braced others n built starts' single')
     unfolding braced
     braced_agrees zero built start reads ts us e = cond_agrees (begins_agrees (kind_agrees OpenBrace) ts us e)
@@ -311,15 +311,15 @@ module _ {T U W V : Type 0} (R : T → U → Type 0) (S : W → V → Type 0) wh
 
     -- ---- features
 
-    begins_feature_agrees : SameStart R (begins_feature words) (begins_feature others)
+    pub begins_feature_agrees : SameStart R (begins_feature words) (begins_feature others)
     begins_feature_agrees ts us e = either_agrees (either_agrees (begins_agrees (kind_agrees Less) ts us e) (begins_agrees symbol_agrees ts us e)) (begins_agrees (kind_agrees OpenBrace) ts us e)
 
-    single_feature_agrees : (s : Stage) → SameReads R S (SameFeatureText S) (single_feature words s) (single_feature others s)
+    pub single_feature_agrees : (s : Stage) → SameReads R S (SameFeatureText S) (single_feature words s) (single_feature others s)
     single_feature_agrees s ts us e = cond_agrees (begins_agrees (kind_agrees Less) ts us e)
         (bind_agrees (equation_agrees AnyAttribute AnyAttribute tt what.EquationOrName ts us e) (λ f g b ts us e. got b e))
         (bind_agrees (one_agrees symbol_agrees what.EquationOrName ts us e) (λ t u r rest rest' k. cond_agrees {b = s.groups} refl (got (same.word t u r, same.place t u r) k) (stops tt e)))
 
-    feature_agrees : (s : Stage) → SameReads R S (SameItem (SameFeatureText S)) (feature words s) (feature others s)
+    pub feature_agrees : (s : Stage) → SameReads R S (SameItem (SameFeatureText S)) (feature words s) (feature others s)
     feature_agrees s = braced_agrees 16 s.groups begins_feature_agrees (single_feature_agrees s)
 
     -- ---- templates and lexical rules

@@ -1,9 +1,7 @@
 -- What a run comes to is one thing, for each numbering and for all.
 use Rattle.std.specs.Prelude.{◌≡◌, ℕ, List, [], ◌∷◌, ◌++◌, Bool, Option}
-use Rattle.patr_model.specs.Plain.{plain}
 use Rattle.patr_model.specs.Session.{Numbering, AgreesWith, Grounds, State, LineForms, Judge, IsQuit, IsLineReply, Replied}
 use Rattle.patr_model.specs.Run.{Ending, Notations, Opening, IsOpening, IsOut}
-use Rattle.patr_model.specs.Built.{sentences_alone, built}
 use Rattle.patr_model.specs.Solved.{solved}
 use Rattle.patr_model.specs.Stages.{Stage}
 use Rattle.patr_model.specs.Notations.{lines_with_commands, notations}
@@ -19,21 +17,13 @@ abbrev pub HasOneOut : Notations → Type 0
 HasOneOut notation = (N N' : Numbering) (words : List (List ℕ)) (files : List ℕ → Option (List ℕ)) (input x y : List ℕ) (e f : Ending)
     → IsOut notation N words files input x e → IsOut notation N' words files input y f → (x ≡ y) × (e ≡ f)
 
--- so it is in the notations that are built
+-- so it is at each stage
 abbrev pub OpeningsAreOne : Type 0
-OpeningsAreOne = HasOneOpening built
+OpeningsAreOne = (stage : Stage) → HasOneOpening (notations stage lines_with_commands)
 
 -- and so are runs
 abbrev pub RunsAreOne : Type 0
-RunsAreOne = HasOneOut built
-
--- and at each stage with path equations
-abbrev pub StageOpeningsAreOne : Type 0
-StageOpeningsAreOne = (stage : Stage) → HasOneOpening (notations stage lines_with_commands)
-
--- runs at each stage
-abbrev pub StageRunsAreOne : Type 0
-StageRunsAreOne = (stage : Stage) → HasOneOut (notations stage lines_with_commands)
+RunsAreOne = (stage : Stage) → HasOneOut (notations stage lines_with_commands)
 
 -- the replies to lines none of which ends the session, from one state to another
 abbrev pub Answered : Judge → LineForms → Grounds → State → List (List ℕ) → List ℕ → State → Type 0
@@ -48,13 +38,9 @@ pub record RepliesBegin (judge : Judge) (forms : LineForms) (s : Grounds) : Type
   pub goes_on : (st end : State) (ls rest : List (List ℕ)) (before after : List ℕ) (quit : Bool) → Answered judge forms s st ls before end → Replied judge forms s end rest after quit
       → Replied judge forms s st (ls ++ rest) (before ++ after) quit
 
--- so it is where sentences alone are read
-abbrev pub SentenceRepliesBegin : Type 0
-SentenceRepliesBegin = (s : Grounds) → RepliesBegin (λ g cat. plain g) sentences_alone s
-
--- and where commands are read too
-abbrev pub CommandRepliesBegin : Type 0
-CommandRepliesBegin = (s : Grounds) → RepliesBegin solved lines_with_commands s
+-- so it is with sentences and the commands of a session
+abbrev pub SessionRepliesBegin : Type 0
+SessionRepliesBegin = (s : Grounds) → RepliesBegin solved lines_with_commands s
 
 -- each table of different texts has a numbering that agrees with it
 abbrev pub TablesAreNumbered : Type 0

@@ -7,11 +7,9 @@ use Rattle.patr_model.specs.Structure.{Value, Atom, Node, Arc, Structure}
 use Rattle.patr_model.specs.Equation.{SlotPath, Term, AtomOf, PathOf, Equation}
 use Rattle.patr_model.specs.Derivation.{Rules, RuleVariant, EntryVariant}
 use Rattle.patr_model.specs.Grammar.{Row, Rows, Done, One, OneOf, Optional, None', Or, Symbol, WrittenPath, WrittenTerm, AtomText, PathText, WrittenEquation, WrittenRule, rule_variants}
-use Rattle.patr_model.specs.Plain.{plain}
 use Rattle.patr_model.specs.Solved.{solved}
 use Rattle.patr_model.specs.Session.{Numbering, Grounds, State, Judge, LineForms, IsSentenceReply, IsLineReply, Replied}
 use Rattle.patr_model.specs.Run.{Ending, Notations, IsOut}
-use Rattle.patr_model.specs.Built.{built}
 use Rattle.patr_model.specs.Stages.{Stage}
 use Rattle.patr_model.specs.Notations.{lines_with_commands, notations}
 
@@ -145,23 +143,18 @@ pub record RepliesAgree (judge : Judge) (forms : LineForms) (s s' : Grounds) : T
   pub one_line : (st : State) (bytes : List ℕ) (x y : List ℕ) (a b : State) → IsLineReply judge forms s st bytes x a → IsLineReply judge forms s' st bytes y b → (x ≡ y) × (a ≡ b)
   pub one_session : (st : State) (lines : List (List ℕ)) (x y : List ℕ) (quit quit' : Bool) → Replied judge forms s st lines x quit → Replied judge forms s' st lines y quit' → (x ≡ y) × (quit ≡ quit')
 
--- Replies do not depend on how symbols are numbered: to sentences alone by the plain chart, and with the commands of a session by the chart of solutions.
-pub record RepliesIgnoreNumbers : Type 0 where
-  pub plain : (s s' : Grounds) → SameGrounds s s' → RepliesAgree (λ g cat. plain g) built.lines s s'
-  pub solved : (s s' : Grounds) → SameGrounds s s' → RepliesAgree solved lines_with_commands s s'
+-- Replies do not depend on how symbols are numbered.
+abbrev pub RepliesIgnoreNumbers : Type 0
+RepliesIgnoreNumbers = (s s' : Grounds) → SameGrounds s s' → RepliesAgree solved lines_with_commands s s'
 
 -- Nor does what a run writes, and how it ends. There is no premise: both numberings are any.
 abbrev pub IgnoresNumbers : Notations → Type 0
 IgnoresNumbers notation = (N N' : Numbering) (words : List (List ℕ)) (files : List ℕ → Option (List ℕ)) (input text : List ℕ) (ending : Ending)
     → IsOut notation N words files input text ending → IsOut notation N' words files input text ending
 
--- so it is in the notations that are built
+-- so it is at each stage
 abbrev pub RunsIgnoreNumbers : Type 0
-RunsIgnoreNumbers = IgnoresNumbers built
-
--- and at each stage with path equations
-abbrev pub StageRunsIgnoreNumbers : Type 0
-StageRunsIgnoreNumbers = (stage : Stage) → IgnoresNumbers (notations stage lines_with_commands)
+RunsIgnoreNumbers = (stage : Stage) → IgnoresNumbers (notations stage lines_with_commands)
 
 -- the variants of one rule, read under two numberings, are one for one the same
 abbrev pub VariantsIgnoreNumbers : Type 0

@@ -5,7 +5,6 @@ mod builds;
 mod field;
 mod front;
 mod notation;
-mod stages;
 
 ghost use Rattle.patr_model.specs.Samples.{SamplesOfMaps};
 ghost use Rattle.patr_model.specs.Laws.{SubsumptionIsOrder, UnifiersAreSame, LeastValuesExtend, UnifierIsLeastValue, PredictionDropsNone, SameAsUnifier, ClosedMarksAreSettled, ChartIsLicensed, NoMoreThanAll, OneReply, PlainIsSolvable, CategoriesAreOneAll, PlainChartIsSolved, CanonicalTexts, TextsAreRead, ReadingIsBack, LeastTextsAreOneAll, WalksAreWhole, Printing, WalksByStack, MapsByPairsAll, BuildsByStack, SortedIsInOrder, ReadsByItemsAll, TablesGive, TextsAreLocal};
@@ -15,7 +14,7 @@ ghost use Rattle.patr_model.specs.EquationStructures.{EquationsAreStructures};
 ghost use Rattle.patr_model.specs.Variants.{VariantSteps, LeavesAreRules};
 ghost use Rattle.patr_model.specs.Chains.{ChainSteps};
 ghost use Rattle.patr_model.specs.Longer.{LongerKeeps};
-ghost use Rattle.patr_model.specs.Openings.{OpeningsAreOne, RunsAreOne, SentenceRepliesBegin, TablesAreNumbered};
+ghost use Rattle.patr_model.specs.Openings.{OpeningsAreOne, RunsAreOne, SessionRepliesBegin, TablesAreNumbered};
 ghost use Rattle.patr_model.specs.Agreeing.{ReadingIgnoresNumbers};
 ghost use Rattle.patr_model.specs.Spelling.{ClausesEnd, PathsAreSpelled, EquationsAreSpelled, RulesAreSpelled, GrammarsAreSpelled, EntriesAreSpelled};
 ghost use Rattle.patr_model.specs.Renaming.{RepliesIgnoreNumbers, RunsIgnoreNumbers, VariantsIgnoreNumbers, EachNumberingServes};
@@ -27,9 +26,6 @@ pub use builds::{
 pub use field::{LineKind, Marker};
 pub use front::{Front, Kind};
 pub use notation::{Key, What};
-pub use stages::{
-    command_replies_begin, stage_openings_are_one, stage_runs_are_one, stage_runs_ignore_numbers,
-};
 
 /// Subsumption is an order.
 pub fn subsumption_is_order()
@@ -211,7 +207,7 @@ pub fn replies_ignore_numbers()
     ensures { RepliesIgnoreNumbers }
 {}
 
-/// The text of a run does not depend on how symbols are numbered.
+/// At each stage the text of a run does not depend on how symbols are numbered.
 pub fn runs_ignore_numbers()
     ensures { RunsIgnoreNumbers }
 {}
@@ -226,19 +222,19 @@ pub fn each_numbering_serves()
     ensures { EachNumberingServes }
 {}
 
-/// The words and the files of a run come to one session, or one refusal.
+/// At each stage the words and the files of a run come to one session, or one refusal.
 pub fn openings_are_one()
     ensures { OpeningsAreOne }
 {}
 
-/// A run has one text and one ending, whichever numbering it is read under.
+/// At each stage a run has one text and one ending, whichever numbering it is read under.
 pub fn runs_are_one()
     ensures { RunsAreOne }
 {}
 
 /// The replies to the first lines of a session begin each of its texts.
 pub fn replies_begin()
-    ensures { SentenceRepliesBegin }
+    ensures { SessionRepliesBegin }
 {}
 
 /// Each table of different texts has a numbering that agrees with it.

@@ -1,5 +1,6 @@
+use Rattle.patr_model.specs.Notations.{lines_with_commands}
 use Rattle.patr_model.proofs.openings_are_one.Goals as goal
-use Rattle.patr_model.proofs.OneRun.{openings_are_one}
+use Rattle.patr_model.proofs.OneRun.{stage_openings}
 
 pub returns : goal.returns
-returns c = openings_are_one
+returns c = λ stage. stage_openings stage lines_with_commands

@@ -1,8 +1,0 @@
-use Rattle.patr_model.specs.Solved.{solved}
-use Rattle.patr_model.specs.Notations.{lines_with_commands}
-use Rattle.patr_model.proofs.stages.command_replies_begin.Goals as goal
-use Rattle.patr_model.proofs.Canonical.{least_texts}
-use Rattle.patr_model.proofs.Lines.{replies_begin}
-
-pub returns : goal.returns
-returns c = λ s. replies_begin solved lines_with_commands s (least_texts s) (λ st c x y m n. absurd m)
