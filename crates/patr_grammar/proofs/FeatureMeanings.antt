@@ -1,15 +1,16 @@
 -- From what the lexemes of features stand for to what their tokens stand for.
-use Rattle.std.proofs.Common.{◌≡◌, ℕ, Bool, true, false, cond, List, [], ◌∷◌, map, Result, Ok, Err, IfOk, IfErr, Vec, Global, refl, sym, ap, ◌∙◌, subst}
+use Rattle.std.proofs.Common.{◌≡◌, ℕ, List, map, Result, Ok, Err, IfOk, IfErr, Vec, Global, refl, sym, ap, ◌∙◌, subst}
 use Rattle.patr_model.specs.Grammar.{Row}
 use Rattle.patr_model.specs.Table.{IsTable}
 use Rattle.patr_model.specs.Renaming.{Each, SameRow}
 use Rattle.patr_model.specs.Tokens.{Place, Token, after, start_place}
 use Rattle.patr_model.specs.Lexemes.{by_text}
+use Rattle.patr_model.specs.Built.{stage}
 use Rattle.patr_model.specs.Parsing as parsing
 use Rattle.patr_model.specs.Parsing.{Parse, Got, Stops}
 use Rattle.patr_model.specs.Productions.{FeatureText, elements}
 use Rattle.patr_model.specs.GrammarText.{place_of}
-use Rattle.patr_model.specs.LexiconText.{BadFeatures, as_features, none_yet}
+use Rattle.patr_model.specs.LexiconText.{BadFeatures, as_features}
 use Rattle.patr_model.specs.Agreeing.{SameFeatureText}
 use Rattle.patr_model.proofs.SameParses.{SameParse}
 use Rattle.patr_text.specs.declared.fault.Fault.{Fault}
@@ -25,11 +26,11 @@ use Rattle.patr_grammar.specs.declared.grammar.GrammarCause.TheVariants as cause
 use Rattle.patr_grammar.specs.declared.reader.Refusal.{Refusal}
 use Rattle.patr_grammar.specs.declared.reader.Refusal.TheVariants.{Expected, NotAConstituent, PathTooLong, TooManySymbols, LaterForm}
 use Rattle.patr_grammar.specs.Reading.{IsText}
-use Rattle.patr_grammar.specs.Views.{by_id, IsLexeme, stage_of, first_place, place_seen, refusal_seen, cause_at, features_view, features_by, StopsAt, AnswersFeatures}
+use Rattle.patr_grammar.specs.Views.{by_id, IsLexeme, first_place, place_seen, refusal_seen, cause_at, features_view, StopsAt, AnswersFeatures}
 use Rattle.patr_grammar.specs.Features.{features_in, StandForFeatures, refused_at, AreRefusedFor}
 use Rattle.patr_grammar.proofs.FeatureRefusals.{IsRefusedSo, refused_so}
 use Rattle.patr_grammar.proofs.Meanings.{words_agree, places, refusal_by_text, same_refusal}
-use Rattle.patr_grammar.proofs.SameFeatures.{features_agree}
+use Rattle.patr_grammar.proofs.SameFeatures.{elements_agree}
 
 abbrev Features : Type 0
 Features = Parse Lexeme Id (List Lexeme) (Row (FeatureText Id))
@@ -44,48 +45,43 @@ answers_at end PathTooLong at ts rest p so e is = (rest, e, is)
 answers_at end TooManySymbols at ts rest p so e is = (subst (λ (p : Features). IsRefusedSo p) e so).is
 answers_at end LaterForm at ts rest p so e is = (rest, e, is)
 
-pub features_refused : (end : Place) (b : Bool) (r : Refusal) (at : code_place.Place) (ts rest : List Lexeme) → features_by by_id b ts ≡ Stops (refusal_seen r) rest → place_seen at ≡ first_place end rest
-    → AnswersFeatures end (Err (Refused (cause_at r at))) (features_by by_id b ts)
-features_refused end b r at ts rest e is = answers_at end r at ts rest (features_by by_id b ts) (refused_so by_id b ts) e is
+pub features_refused : (end : Place) (r : Refusal) (at : code_place.Place) (ts rest : List Lexeme) → elements by_id stage ts ≡ Stops (refusal_seen r) rest → place_seen at ≡ first_place end rest
+    → AnswersFeatures end (Err (Refused (cause_at r at))) (elements by_id stage ts)
+features_refused end r at ts rest e is = answers_at end r at ts rest (elements by_id stage ts) (refused_so by_id ts) e is
 
 -- ---- what it is of tokens
 
 abbrev TextFeatures : Type 0
 TextFeatures = Parse Token (List ℕ) (List Token) (Row (FeatureText (List ℕ)))
 
-features_are : (b : Bool) (end : Place) (ts : List Token) → cond b (as_features end (elements by_text (stage_of b) ts)) (none_yet ts) ≡ as_features end (features_by by_text b ts)
-features_are true end ts = refl
-features_are false end [] = refl
-features_are false end (t ∷ ts) = refl
-
-module _ (b : Bool) (table : List (List ℕ)) (text : List ℕ) (tokens : List code.Token) where
+module _ (table : List (List ℕ)) (text : List ℕ) (tokens : List code.Token) where
   abbrev end : Place
   end = after start_place text
 
   abbrev by_tokens : TextFeatures
-  by_tokens = features_by by_text b (map (seen text) tokens)
+  by_tokens = elements by_text stage (map (seen text) tokens)
 
   abbrev Same : Features → TextFeatures → Type 0
   Same p q = SameParse (IsLexeme table) (IsText table) (Each (IsLexeme table)) (SameRow (SameFeatureText (IsText table))) p q
 
-  is_read : (q : TextFeatures) → by_tokens ≡ q → features_in (stage_of b) text tokens ≡ as_features end q
-  is_read q e = features_are b end (map (seen text) tokens) ∙ ap (as_features end) e
+  is_read : (q : TextFeatures) → by_tokens ≡ q → features_in stage text tokens ≡ as_features end q
+  is_read q e = ap (as_features end) e
 
-  stand_for : (v : Vec Element Global) (rest : List Lexeme) (q : TextFeatures) → by_tokens ≡ q → Same (Got (features_view v) rest) q → StandForFeatures (stage_of b) table text tokens v.items
+  stand_for : (v : Vec Element Global) (rest : List Lexeme) (q : TextFeatures) → by_tokens ≡ q → Same (Got (features_view v) rest) q → StandForFeatures stage table text tokens v.items
   stand_for v rest (Got r us) e same = (r, is_read (Got r us) e, same.together.0)
   stand_for v rest (Stops r us) e same = absurd same.together
 
-  refused : (r : Refusal) (place : Place) (rest : List Lexeme) (q : TextFeatures) → by_tokens ≡ q → place ≡ first_place end rest → Same (Stops (refusal_seen r) rest) q → features_in (stage_of b) text tokens ≡ Err (BadFeatures (refusal_by_text r) place)
+  refused : (r : Refusal) (place : Place) (rest : List Lexeme) (q : TextFeatures) → by_tokens ≡ q → place ≡ first_place end rest → Same (Stops (refusal_seen r) rest) q → features_in stage text tokens ≡ Err (BadFeatures (refusal_by_text r) place)
   refused r place rest (Got x us) e at same = absurd same.together
   refused r place rest (Stops s us) e at same =
       is_read (Stops s us) e
       ∙ ap (λ (s : parsing.Refusal (List ℕ)). Err (BadFeatures s (place_of end us))) (same_refusal (IsText table) r s same.together.0)
       ∙ ap (λ (p : Place). Err (BadFeatures (refusal_by_text r) p)) (sym (at ∙ places table end rest us same.together.1))
 
-  stops_at : (r : Refusal) (line column : ℕ) (p : Features) → StopsAt (refusal_seen r) line column end p → Same p by_tokens → features_in (stage_of b) text tokens ≡ refused_at (refusal_by_text r) line column
+  stops_at : (r : Refusal) (line column : ℕ) (p : Features) → StopsAt (refusal_seen r) line column end p → Same p by_tokens → features_in stage text tokens ≡ refused_at (refusal_by_text r) line column
   stops_at r line column p h same = refused r (record { line = line; column = column }) h.0 by_tokens refl h.2 (subst (λ (p : Features). Same p by_tokens) h.1 same)
 
-  refusal_is : (c : GrammarCause) (p : Features) → AnswersFeatures end (Err (Refused c)) p → Same p by_tokens → AreRefusedFor (stage_of b) text tokens (Refused c)
+  refusal_is : (c : GrammarCause) (p : Features) → AnswersFeatures end (Err (Refused c)) p → Same p by_tokens → AreRefusedFor stage text tokens (Refused c)
   refusal_is (cause.Expected line column what) p h same = stops_at (Expected what) line column p h same
   refusal_is (cause.PathTooLong line column) p h same = stops_at PathTooLong line column p h same
   refusal_is (cause.LaterForm line column) p h same = stops_at LaterForm line column p h same
@@ -97,13 +93,13 @@ module _ (b : Bool) (table : List (List ℕ)) (text : List ℕ) (tokens : List c
 
   -- what is answered of the lexemes is so of the tokens
   pub features_answered : (ls : List Lexeme) (result : Result (Vec Element Global) (Fault GrammarCause)) → IsTable table → Each (IsLexeme table) ls (map (seen text) tokens)
-      → AnswersFeatures end result (features_by by_id b ls) → IfOk result (λ v. StandForFeatures (stage_of b) table text tokens v.items) × IfErr result (λ fault. AreRefusedFor (stage_of b) text tokens fault)
+      → AnswersFeatures end result (elements by_id stage ls) → IfOk result (λ v. StandForFeatures stage table text tokens v.items) × IfErr result (λ fault. AreRefusedFor stage text tokens fault)
   features_answered ls result once each h = by result h
     where
-      same : Same (features_by by_id b ls) by_tokens
-      same = features_agree (IsLexeme table) (IsText table) by_id by_text (words_agree table once) b ls (map (seen text) tokens) each
+      same : Same (elements by_id stage ls) by_tokens
+      same = elements_agree (IsLexeme table) (IsText table) by_id by_text (words_agree table once) stage ls (map (seen text) tokens) each
 
-      by : (result : Result (Vec Element Global) (Fault GrammarCause)) → AnswersFeatures end result (features_by by_id b ls) → IfOk result (λ v. StandForFeatures (stage_of b) table text tokens v.items) × IfErr result (λ fault. AreRefusedFor (stage_of b) text tokens fault)
+      by : (result : Result (Vec Element Global) (Fault GrammarCause)) → AnswersFeatures end result (elements by_id stage ls) → IfOk result (λ v. StandForFeatures stage table text tokens v.items) × IfErr result (λ fault. AreRefusedFor stage text tokens fault)
       by (Ok v) h = (stand_for v h.0 by_tokens refl (subst (λ (p : Features). Same p by_tokens) h.1 same), tt)
       by (Err Memory) h = (tt, tt)
-      by (Err (Refused c)) h = (tt, refusal_is c (features_by by_id b ls) h same)
+      by (Err (Refused c)) h = (tt, refusal_is c (elements by_id stage ls) h same)

@@ -5,8 +5,8 @@ use Rattle.patr_model.specs.declared.notation.What.{What}
 use Rattle.patr_model.specs.declared.notation.What.TheVariants as what
 use Rattle.patr_model.specs.Lexemes.{Words, is_kind, is_symbol, begins}
 use Rattle.patr_model.specs.Parsing.{Refusal, Expected, PathTooLong, LaterForm, Parse, Got, Stops, ◌>>=◌, Reads, one, many, star}
+use Rattle.patr_model.specs.Built.{stage}
 use Rattle.patr_model.specs.Productions.{Item, FeatureText, AnyAttribute, word_list, path, term, equation, braced, begins_feature, single_feature, feature, elements}
-use Rattle.patr_grammar.specs.Views.{stage_of, no_features, features_by}
 use Rattle.patr_grammar.proofs.Features.{closed, elements_is}
 
 -- such a refusal
@@ -71,26 +71,19 @@ module _ {T W : Type 0} (words : Words T W) where
   unfolding equation
   equations ts = binds (paths what.EquationOrName ts) (λ l ts. binds (ones (is_kind words Equal) what.Equal ts) (λ _ ts. binds (terms ts) (λ r ts. got)))
 
-  singles : (ts : List T) → IsRefusedSo (single_feature words (stage_of true) ts)
+  singles : (ts : List T) → IsRefusedSo (single_feature words stage ts)
   singles ts = chooses (begins (is_kind words Less) ts) (binds (equations ts) (λ e ts. got)) (binds (ones (is_symbol words) what.EquationOrName ts) (λ t rest. stops tt))
 
   in_braces : {X : Type 0} (n : ℕ) (starts : List T → Bool) (single : Reads T W X) → ((ts : List T) → IsRefusedSo (single ts)) → (ts : List T) → IsRefusedSo (braced words (suc n) false starts single ts)
   unfolding braced
   in_braces n starts single h ts = chooses (begins (is_kind words OpenBrace) ts) (stops tt) (binds (h ts) (λ x ts. got))
 
-  lists : (ts : List T) → IsRefusedSo (star (begins_feature words) (feature words (stage_of true)) ts)
-  lists ts = manys (length ts) (begins_feature words) (feature words (stage_of true)) (in_braces 15 (begins_feature words) (single_feature words (stage_of true)) singles) ts
+  lists : (ts : List T) → IsRefusedSo (star (begins_feature words) (feature words stage) ts)
+  lists ts = manys (length ts) (begins_feature words) (feature words stage) (in_braces 15 (begins_feature words) (single_feature words stage) singles) ts
 
-  built : (ts : List T) → IsRefusedSo (elements words (stage_of true) ts)
-  built ts = subst (λ p. IsRefusedSo p) (sym (elements_is words (stage_of true) ts)) (binds (lists ts) ends)
+  pub refused_so : (ts : List T) → IsRefusedSo (elements words stage ts)
+  refused_so ts = subst (λ p. IsRefusedSo p) (sym (elements_is words stage ts)) (binds (lists ts) ends)
     where
-      ends : (xs : List (Item (FeatureText W))) (rest : List T) → IsRefusedSo (closed words (stage_of true) xs rest)
+      ends : (xs : List (Item (FeatureText W))) (rest : List T) → IsRefusedSo (closed words stage xs rest)
       ends xs [] = got
       ends xs (t ∷ rest) = stops tt
-
-  none : (ts : List T) → IsRefusedSo (no_features {T = T} {W = W} ts)
-  none [] = got
-  none (t ∷ ts) = stops tt
-
-  pub refused_so : (b : Bool) (ts : List T) → IsRefusedSo (features_by words b ts)
-  refused_so b ts = chooses b (built ts) (none ts)

@@ -1,4 +1,4 @@
--- What productions give where nothing but path equations may be built.
+-- What productions give at the stage that is built.
 use Rattle.std.proofs.Common.{◌≡◌, ℕ, suc, ◌-◌, Bool, true, false, cond, List, [], ◌∷◌, ◌++◌, map, nat_eq, None, slice_index_or, ◌<◌, length, refl, sym, ap, ◌∙◌, arith, append-nil}
 use Rattle.std.proofs.lemmas.Bool.Decides.{nat_tests}
 use Rattle.patr_model.specs.declared.front.Kind.TheVariants.{OpenBrace, CloseBrace, OpenParen}
@@ -6,8 +6,8 @@ use Rattle.patr_model.specs.declared.notation.Key.TheVariants.{Let, Define, Para
 use Rattle.patr_model.specs.declared.notation.What.TheVariants as what
 use Rattle.patr_model.specs.Lexemes.{Words, is_kind, is_key, is_symbol, begins}
 use Rattle.patr_model.specs.Parsing.{Parse, Got, Stops, ◌>>=◌, Expected, TooManySymbols, LaterForm}
+use Rattle.patr_model.specs.Built.{stage}
 use Rattle.patr_model.specs.Productions.{Left, Item, Single, SymbolText, RuleText, RuleClause, Settings, symbol_of, name_tokens, symbol_item, item, template, lexical_rule, parameter, clause, clauses, settings, before, Stands, with_rules, concluded, outcome, grammar}
-use Rattle.patr_grammar.specs.Views.{stage_of}
 use Rattle.patr_grammar.proofs.Loops.{onto, onto_one}
 
 module _ {T W : Type 0} (words : Words T W) where
@@ -70,17 +70,17 @@ module _ {T W : Type 0} (words : Words T W) where
 
   -- ---- clauses
 
-  pub later_let : (b : Bool) (ts : List T) → begins (is_key words Let) ts ≡ true → clause words (stage_of b) [] ts ≡ Stops LaterForm ts
+  pub later_let : (ts : List T) → begins (is_key words Let) ts ≡ true → clause words stage [] ts ≡ Stops LaterForm ts
   unfolding template
-  later_let b ts h = rw h refl
+  later_let ts h = rw h refl
 
-  pub later_define : (b : Bool) (ts : List T) → begins (is_key words Let) ts ≡ false → begins (is_key words Define) ts ≡ true → clause words (stage_of b) [] ts ≡ Stops LaterForm ts
+  pub later_define : (ts : List T) → begins (is_key words Let) ts ≡ false → begins (is_key words Define) ts ≡ true → clause words stage [] ts ≡ Stops LaterForm ts
   unfolding lexical_rule
-  later_define b ts a h = rw (a, h) refl
+  later_define ts a h = rw (a, h) refl
 
-  pub later_parameter : (b : Bool) (ts : List T) → begins (is_key words Let) ts ≡ false → begins (is_key words Define) ts ≡ false → begins (is_key words Parameter) ts ≡ true → clause words (stage_of b) [] ts ≡ Stops LaterForm ts
+  pub later_parameter : (ts : List T) → begins (is_key words Let) ts ≡ false → begins (is_key words Define) ts ≡ false → begins (is_key words Parameter) ts ≡ true → clause words stage [] ts ≡ Stops LaterForm ts
   unfolding parameter
-  later_parameter b ts l d h = rw (l, d, h) refl
+  later_parameter ts l d h = rw (l, d, h) refl
 
   -- ---- a grammar of rules alone
 
@@ -92,11 +92,11 @@ module _ {T W : Type 0} (words : Words T W) where
   settings_of_rules f (r ∷ rs) = ap (λ (g : Settings W). before (RuleClause (f r)) g) (settings_of_rules f rs)
 
   -- rules whose first one has this category as its mother's
-  pub stands : {X : Type 0} (b : Bool) (f : X → RuleText W) (cat start : W) (rs : List X) (ts rest : List T) → clauses words (stage_of b) (length ts) [] ts ≡ Got (map (λ r. RuleClause (f r)) rs) rest → 0 < length rs
+  pub stands : {X : Type 0} (f : X → RuleText W) (cat start : W) (rs : List X) (ts rest : List T) → clauses words stage (length ts) [] ts ≡ Got (map (λ r. RuleClause (f r)) rs) rest → 0 < length rs
       → ((default : X) → start ≡ (f (slice_index_or rs 0 default)).mother.category)
-      → grammar words (stage_of b) cat ts ≡ Stands (record { rules = map f rs; templates = []; lexical_rules = []; start = start; restrictor = (cat ∷ []) ∷ []; order = [] })
-  stands b f cat start [] ts rest e some is = absurd (omega arith)
-  stands b f cat start (r ∷ rs) ts rest e some is =
+      → grammar words stage cat ts ≡ Stands (record { rules = map f rs; templates = []; lexical_rules = []; start = start; restrictor = (cat ∷ []) ∷ []; order = [] })
+  stands f cat start [] ts rest e some is = absurd (omega arith)
+  stands f cat start (r ∷ rs) ts rest e some is =
       ap (outcome cat) e
       ∙ ap (λ (g : Settings W). concluded (with_rules cat g g.rules)) (settings_of_rules f (r ∷ rs))
       ∙ ap (λ (x : W). Stands (record { rules = map f (r ∷ rs); templates = []; lexical_rules = []; start = x; restrictor = (cat ∷ []) ∷ []; order = [] })) (sym (is r))

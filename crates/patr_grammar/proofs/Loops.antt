@@ -4,7 +4,7 @@ use Rattle.std.proofs.lemmas.Bool.{true≢false}
 use Rattle.patr_model.specs.Parsing as parsing
 use Rattle.patr_model.specs.Parsing.{Parse, Got, Stops, ◌>>=◌, Reads, many}
 use Rattle.patr_model.specs.Productions.{Left, Item, Single, SymbolText, RuleText, Clause, RuleClause, row, many_right, begins_outer, item, star_right, right_side, with_name, clause, clauses}
-use Rattle.patr_model.specs.Stages.{plain_rules}
+use Rattle.patr_model.specs.Built.{stage}
 use Rattle.patr_text.specs.declared.fault.Fault.{Fault}
 use Rattle.patr_text.specs.declared.fault.Fault.TheVariants.{Memory, Refused}
 use Rattle.patr_text.specs.declared.symbols.Id.{Id}
@@ -13,7 +13,7 @@ use Rattle.patr_grammar.specs.declared.reader.Refusal.{Refusal}
 use Rattle.patr_grammar.specs.declared.grammar.Item as code_item
 use Rattle.patr_grammar.specs.declared.grammar.RuleText as code_rule
 use Rattle.patr_grammar.specs.Reading.{item_seen}
-use Rattle.patr_grammar.specs.Views.{by_id, stage_of, refusal_seen, Gives, GivesAt, right_view, rule_view}
+use Rattle.patr_grammar.specs.Views.{by_id, refusal_seen, Gives, GivesAt, right_view, rule_view}
 
 -- things that were read before
 abbrev pub onto : {T W S X : Type 0} → List X → Parse T W S (List X) → Parse T W S (List X)
@@ -66,7 +66,7 @@ not_empty [] h = absurd cc
 not_empty (t ∷ ts) h = omega arith
 
 pub right_stops : (f : Fault Refusal) (front : Items) (n : ℕ) (s state : Left Lexeme) (rest ts : List Lexeme) → begins_outer by_id s.tokens ≡ true → length s.tokens ≤ n → so_far front n s ≡ all_items ts
-    → GivesAt item_view (Err f) state rest (plain_item s) → Gives right_view (Err f) rest (right_side by_id plain_rules ts)
+    → GivesAt item_view (Err f) state rest (plain_item s) → Gives right_view (Err f) rest (right_side by_id stage ts)
 right_stops Memory front n s state rest ts h le e g = tt
 right_stops (Refused r) front n s state rest ts h le e g =
     let k = one_more n (omega (arith, not_empty s.tokens h)) in
@@ -78,7 +78,7 @@ right_more front n s t x ts h le e g =
     let k = one_more n (omega (arith, not_empty s.tokens h)) in
     sym (more_items front (n - 1) s t x h g) ∙ ap (λ (m : ℕ). so_far front m s) (sym k) ∙ e
 
-pub right_ends : (front : Items) (n : ℕ) (s : Left Lexeme) (ts : List Lexeme) → begins_outer by_id s.tokens ≡ false → so_far front n s ≡ all_items ts → right_side by_id plain_rules ts ≡ Got (row front) s.tokens
+pub right_ends : (front : Items) (n : ℕ) (s : Left Lexeme) (ts : List Lexeme) → begins_outer by_id s.tokens ≡ false → so_far front n s ≡ all_items ts → right_side by_id stage ts ≡ Got (row front) s.tokens
 right_ends front n s ts h e = ap (λ (p : ItemParse). p >>= λ xs s. Got (row xs) s.tokens) (sym e ∙ items_end front n s h)
 
 -- ---- things as long as one may begin
@@ -124,32 +124,32 @@ module _ {X : Type 0} (starts : List Lexeme → Bool) (read : Reads Lexeme Id X)
 abbrev Clauses : Type 0
 Clauses = Parse Lexeme Id (List Lexeme) (List (Clause Id))
 
-abbrev pub clauses_from : Bool → List (Clause Id) → ℕ → List Lexeme → Clauses
-clauses_from b front n ts = onto front (clauses by_id (stage_of b) n [] ts)
+abbrev pub clauses_from : List (Clause Id) → ℕ → List Lexeme → Clauses
+clauses_from front n ts = onto front (clauses by_id stage n [] ts)
 
-abbrev read_clause : Bool → List (Clause Id) → ℕ → Parse Lexeme Id (List Lexeme) (Clause Id) → Clauses
-read_clause b front n p = onto front (p >>= λ c rest. clauses by_id (stage_of b) n (with_name c []) rest >>= λ cs rest. Got (c ∷ cs) rest)
+abbrev read_clause : List (Clause Id) → ℕ → Parse Lexeme Id (List Lexeme) (Clause Id) → Clauses
+read_clause front n p = onto front (p >>= λ c rest. clauses by_id stage n (with_name c []) rest >>= λ cs rest. Got (c ∷ cs) rest)
 
-clause_more : (b : Bool) (front : List (Clause Id)) (n : ℕ) (ts rest : List Lexeme) (x : RuleText Id) → 1 ≤ length ts → clause by_id (stage_of b) [] ts ≡ Got (RuleClause x) rest → clauses_from b front (suc n) ts ≡ clauses_from b (front ++ RuleClause x ∷ []) n rest
+clause_more : (front : List (Clause Id)) (n : ℕ) (ts rest : List Lexeme) (x : RuleText Id) → 1 ≤ length ts → clause by_id stage [] ts ≡ Got (RuleClause x) rest → clauses_from front (suc n) ts ≡ clauses_from (front ++ RuleClause x ∷ []) n rest
 unfolding clauses
-clause_more b front n [] rest x h e = absurd (omega arith)
-clause_more b front n (t ∷ ts) rest x h e = ap (read_clause b front n) e ∙ onto_one front (RuleClause x) (clauses by_id (stage_of b) n [] rest)
+clause_more front n [] rest x h e = absurd (omega arith)
+clause_more front n (t ∷ ts) rest x h e = ap (read_clause front n) e ∙ onto_one front (RuleClause x) (clauses by_id stage n [] rest)
 
-clause_stops : (b : Bool) (front : List (Clause Id)) (n : ℕ) (ts rest : List Lexeme) (r : parsing.Refusal Id) → 1 ≤ length ts → clause by_id (stage_of b) [] ts ≡ Stops r rest → clauses_from b front (suc n) ts ≡ Stops r rest
+clause_stops : (front : List (Clause Id)) (n : ℕ) (ts rest : List Lexeme) (r : parsing.Refusal Id) → 1 ≤ length ts → clause by_id stage [] ts ≡ Stops r rest → clauses_from front (suc n) ts ≡ Stops r rest
 unfolding clauses
-clause_stops b front n [] rest r h e = absurd (omega arith)
-clause_stops b front n (t ∷ ts) rest r h e = ap (read_clause b front n) e
+clause_stops front n [] rest r h e = absurd (omega arith)
+clause_stops front n (t ∷ ts) rest r h e = ap (read_clause front n) e
 
-pub clauses_end : (b : Bool) (front : List (Clause Id)) (n : ℕ) (ts : List Lexeme) (total : Clauses) → length ts ≡ 0 → clauses_from b front n ts ≡ total → total ≡ Got front ts
+pub clauses_end : (front : List (Clause Id)) (n : ℕ) (ts : List Lexeme) (total : Clauses) → length ts ≡ 0 → clauses_from front n ts ≡ total → total ≡ Got front ts
 unfolding clauses
-clauses_end b front n [] total h e = sym e ∙ ap (λ (cs : List (Clause Id)). Got cs []) (append-nil front)
-clauses_end b front n (t ∷ ts) total h e = absurd (omega arith)
+clauses_end front n [] total h e = sym e ∙ ap (λ (cs : List (Clause Id)). Got cs []) (append-nil front)
+clauses_end front n (t ∷ ts) total h e = absurd (omega arith)
 
-pub clauses_more : (b : Bool) (front : List (Clause Id)) (n : ℕ) (ts rest : List Lexeme) (x : RuleText Id) (total : Clauses) → 1 ≤ length ts → length ts ≤ n → clauses_from b front n ts ≡ total → clause by_id (stage_of b) [] ts ≡ Got (RuleClause x) rest
-    → clauses_from b (front ++ RuleClause x ∷ []) (n - 1) rest ≡ total
-clauses_more b front n ts rest x total one le e g = sym (clause_more b front (n - 1) ts rest x one g) ∙ ap (λ (m : ℕ). clauses_from b front m ts) (sym (one_more n (omega arith))) ∙ e
+pub clauses_more : (front : List (Clause Id)) (n : ℕ) (ts rest : List Lexeme) (x : RuleText Id) (total : Clauses) → 1 ≤ length ts → length ts ≤ n → clauses_from front n ts ≡ total → clause by_id stage [] ts ≡ Got (RuleClause x) rest
+    → clauses_from (front ++ RuleClause x ∷ []) (n - 1) rest ≡ total
+clauses_more front n ts rest x total one le e g = sym (clause_more front (n - 1) ts rest x one g) ∙ ap (λ (m : ℕ). clauses_from front m ts) (sym (one_more n (omega arith))) ∙ e
 
-pub clauses_stop : (b : Bool) (f : Fault Refusal) (front : List (Clause Id)) (n : ℕ) (ts rest : List Lexeme) (total : Clauses) → 1 ≤ length ts → length ts ≤ n → clauses_from b front n ts ≡ total
-    → Gives rule_view (Err f) rest (clause by_id (stage_of b) [] ts) → Gives (λ (v : Vec code_rule.RuleText Global). map rule_view v.items) (Err f) rest total
-clauses_stop b Memory front n ts rest total one le e g = tt
-clauses_stop b (Refused r) front n ts rest total one le e g = sym e ∙ ap (λ (m : ℕ). clauses_from b front m ts) (one_more n (omega arith)) ∙ clause_stops b front (n - 1) ts rest (refusal_seen r) one g
+pub clauses_stop : (f : Fault Refusal) (front : List (Clause Id)) (n : ℕ) (ts rest : List Lexeme) (total : Clauses) → 1 ≤ length ts → length ts ≤ n → clauses_from front n ts ≡ total
+    → Gives rule_view (Err f) rest (clause by_id stage [] ts) → Gives (λ (v : Vec code_rule.RuleText Global). map rule_view v.items) (Err f) rest total
+clauses_stop Memory front n ts rest total one le e g = tt
+clauses_stop (Refused r) front n ts rest total one le e g = sym e ∙ ap (λ (m : ℕ). clauses_from front m ts) (one_more n (omega arith)) ∙ clause_stops front (n - 1) ts rest (refusal_seen r) one g

@@ -1,5 +1,5 @@
 -- From what lexemes stand for to what the bytes of a text stand for.
-use Rattle.std.proofs.Common.{◌≡◌, ℕ, Bool, List, [], ◌∷◌, map, codes, slice_get, slice_index_or, Option, None, Some, IfSome, IfNone, length, ◌<◌, Result, Ok, Err, IfOk, IfErr, IsUtf8, IsTrue, nat_eq, refl, sym, ap, ◌∙◌, subst, arith}
+use Rattle.std.proofs.Common.{◌≡◌, ℕ, List, [], ◌∷◌, map, codes, slice_get, slice_index_or, Option, None, Some, IfSome, IfNone, length, ◌<◌, Result, Ok, Err, IfOk, IfErr, IsUtf8, IsTrue, nat_eq, refl, sym, ap, ◌∙◌, subst, arith}
 use Rattle.std.proofs.lemmas.Bool.Decides.{nat_tests}
 use Rattle.std.specs.Option.{ok_or}
 use Rattle.patr_model.specs.Bytes.{same_text}
@@ -9,7 +9,7 @@ use Rattle.patr_model.specs.Tokens.{Place, Token, after, start_place, tokens_of}
 use Rattle.patr_model.specs.Lexemes.{by_text}
 use Rattle.patr_model.specs.Parsing as parsing
 use Rattle.patr_model.specs.Parsing.{Got}
-use Rattle.patr_model.specs.Stages.{Stage}
+use Rattle.patr_model.specs.Built.{stage}
 use Rattle.patr_model.specs.Productions as production
 use Rattle.patr_model.specs.Productions.{Outcome, Stands, NoRules, clauses, outcome, grammar}
 use Rattle.patr_model.specs.GrammarText as told
@@ -26,8 +26,8 @@ use Rattle.patr_grammar.specs.declared.grammar.GrammarCause.{GrammarCause}
 use Rattle.patr_grammar.specs.declared.grammar.GrammarCause.TheVariants as cause
 use Rattle.patr_grammar.specs.declared.reader.Refusal.{Refusal}
 use Rattle.patr_grammar.specs.declared.reader.Refusal.TheVariants.{Expected, NotAConstituent, PathTooLong, TooManySymbols, LaterForm}
-use Rattle.patr_grammar.specs.Reading.{IsText, cat_number, rule_seen, grammar_seen, StandsAt, IsDueAt}
-use Rattle.patr_grammar.specs.Views.{by_id, IsLexeme, first_place, refusal_seen, rule_view, stage_of, IsRefusedAt, Answers}
+use Rattle.patr_grammar.specs.Reading.{IsText, cat_number, rule_seen, grammar_seen, StandsFor, IsRefusedFor}
+use Rattle.patr_grammar.specs.Views.{by_id, IsLexeme, first_place, refusal_seen, rule_view, IsRefusedAt, Answers}
 use Rattle.patr_model.proofs.Agreeing.{grammars_agree}
 use Rattle.patr_grammar.proofs.Forms.{stands}
 use Rattle.patr_grammar.proofs.Tables.{text_still}
@@ -36,12 +36,12 @@ use Rattle.patr_grammar.proofs.Texts.{same_by}
 -- ---- the grammar of some rules
 
 -- what is answered of rules up to the end
-pub grammar_answers : (b : Bool) (cat : Id) (end : Place) (rules : List RuleText) (made : Option Grammar) (ls rest : List Lexeme) → clauses by_id (stage_of b) (length ls) [] ls ≡ Got (map rule_view rules) rest
+pub grammar_answers : (cat : Id) (end : Place) (rules : List RuleText) (made : Option Grammar) (ls rest : List Lexeme) → clauses by_id stage (length ls) [] ls ≡ Got (map rule_view rules) rest
     → IfSome made (λ g. 0 < length rules) → IfSome made (λ g. g.rules.items ≡ rules) → IfSome made (λ g. (default : RuleText) → g.start ≡ (slice_index_or rules 0 default).mother.category) → IfNone made (rules ≡ [])
-    → Answers cat end (ok_or made (Refused cause.NoRules)) (grammar by_id (stage_of b) cat ls)
-grammar_answers b cat end rules None ls rest e some same start none = ap (outcome cat) (e ∙ ap (λ (rs : List RuleText). Got (map rule_view rs) rest) none)
-grammar_answers b cat end rules (Some g) ls rest e some same start none =
-    stands by_id b rule_seen cat g.start rules ls rest e some start
+    → Answers cat end (ok_or made (Refused cause.NoRules)) (grammar by_id stage cat ls)
+grammar_answers cat end rules None ls rest e some same start none = ap (outcome cat) (e ∙ ap (λ (rs : List RuleText). Got (map rule_view rs) rest) none)
+grammar_answers cat end rules (Some g) ls rest e some same start none =
+    stands by_id rule_seen cat g.start rules ls rest e some start
     ∙ ap (λ (rs : List RuleText). Stands (record { rules = map rule_seen rs; templates = []; lexical_rules = []; start = g.start; restrictor = (cat ∷ []) ∷ []; order = [] })) (sym same)
 
 -- ---- lexemes and tokens are read alike
@@ -100,41 +100,41 @@ same_refusal S r s h = absurd h
 
 -- ---- a text, its tokens, and its lexemes by a table
 
-module _ (s : Stage) (table : List (List ℕ)) (bytes : List ℕ) (ts : List Token) (utf8 : IsUtf8 bytes) (scanned : tokens_of bytes ≡ Ok ts) where
+module _ (table : List (List ℕ)) (bytes : List ℕ) (ts : List Token) (utf8 : IsUtf8 bytes) (scanned : tokens_of bytes ≡ Ok ts) where
   abbrev end : Place
   end = after start_place bytes
 
   abbrev by_tokens : Outcome Token (List ℕ)
-  by_tokens = grammar by_text s (codes "cat") ts
+  by_tokens = grammar by_text stage (codes "cat") ts
 
   abbrev Same : Outcome Lexeme Id → Outcome Token (List ℕ) → Type 0
   Same o p = SameOutcome (IsLexeme table) (IsText table) o p
 
-  is_read : (p : Outcome Token (List ℕ)) → by_tokens ≡ p → reading s bytes ≡ of_outcome end p
-  is_read p e = ap (of_scanned s end) scanned ∙ ap (of_outcome end) e
+  is_read : (p : Outcome Token (List ℕ)) → by_tokens ≡ p → reading stage bytes ≡ of_outcome end p
+  is_read p e = ap (of_scanned stage end) scanned ∙ ap (of_outcome end) e
 
-  stands_for : (g : Grammar) (p : Outcome Token (List ℕ)) → by_tokens ≡ p → Same (Stands (grammar_seen cat_number g)) p → StandsAt s table bytes g
+  stands_for : (g : Grammar) (p : Outcome Token (List ℕ)) → by_tokens ≡ p → Same (Stands (grammar_seen cat_number g)) p → StandsFor table bytes g
   stands_for g (Stands h) e same = (h, (utf8, is_read (Stands h) e), same)
   stands_for g NoRules e same = absurd same
   stands_for g (production.Refused r rest) e same = absurd same
 
-  without_rules : (p : Outcome Token (List ℕ)) → by_tokens ≡ p → Same NoRules p → reading s bytes ≡ told.NoRules
+  without_rules : (p : Outcome Token (List ℕ)) → by_tokens ≡ p → Same NoRules p → reading stage bytes ≡ told.NoRules
   without_rules (Stands h) e same = absurd same
   without_rules NoRules e same = is_read NoRules e
   without_rules (production.Refused r rest) e same = absurd same
 
   refused : (r : Refusal) (place : Place) (rest : List Lexeme) (p : Outcome Token (List ℕ)) → by_tokens ≡ p → place ≡ first_place end rest → Same (production.Refused (refusal_seen r) rest) p
-      → reading s bytes ≡ told.Refused (refusal_by_text r) place
+      → reading stage bytes ≡ told.Refused (refusal_by_text r) place
   refused r place rest (Stands h) e at same = absurd same
   refused r place rest NoRules e at same = absurd same
   refused r place rest (production.Refused s us) e at same =
       is_read (production.Refused s us) e ∙ ap (λ (s : parsing.Refusal (List ℕ)). told.Refused s (place_of end us)) (same_refusal (IsText table) r s same.0)
       ∙ ap (told.Refused (refusal_by_text r)) (sym (at ∙ places table end rest us same.1))
 
-  refused_at : (r : Refusal) (line column : ℕ) (o : Outcome Lexeme Id) → IsRefusedAt (refusal_seen r) line column end o → Same o by_tokens → reading s bytes ≡ told.Refused (refusal_by_text r) (record { line = line; column = column })
+  refused_at : (r : Refusal) (line column : ℕ) (o : Outcome Lexeme Id) → IsRefusedAt (refusal_seen r) line column end o → Same o by_tokens → reading stage bytes ≡ told.Refused (refusal_by_text r) (record { line = line; column = column })
   refused_at r line column o h same = refused r (record { line = line; column = column }) h.0 by_tokens refl h.2 (subst (λ (o : Outcome Lexeme Id). Same o by_tokens) h.1 same)
 
-  refusal_is : (c : GrammarCause) (o : Outcome Lexeme Id) → Answers cat_number end (Err (Refused c)) o → Same o by_tokens → IsDueAt s bytes (Refused c)
+  refusal_is : (c : GrammarCause) (o : Outcome Lexeme Id) → Answers cat_number end (Err (Refused c)) o → Same o by_tokens → IsRefusedFor bytes (Refused c)
   refusal_is (cause.NotUtf8 at) o h same = absurd h
   refusal_is (cause.BadToken line column) o h same = absurd h
   refusal_is (cause.Expected line column what) o h same = (utf8, refused_at (Expected what) line column o h same, λ x. x)
@@ -145,14 +145,14 @@ module _ (s : Stage) (table : List (List ℕ)) (bytes : List ℕ) (ts : List Tok
   refusal_is (cause.LaterForm line column) o h same = (utf8, refused_at LaterForm line column o h same, λ x. x)
 
   -- what is answered of the lexemes is so of the bytes
-  pub answered : (ls : List Lexeme) (result : Result Grammar (Fault GrammarCause)) → IsTable table → Extends first_texts table → Each (IsLexeme table) ls ts → ((cat : Id) → Answers cat end result (grammar by_id s cat ls))
-      → IfOk result (λ g. StandsAt s table bytes g) × IfErr result (λ fault. IsDueAt s bytes fault)
+  pub answered : (ls : List Lexeme) (result : Result Grammar (Fault GrammarCause)) → IsTable table → Extends first_texts table → Each (IsLexeme table) ls ts → ((cat : Id) → Answers cat end result (grammar by_id stage cat ls))
+      → IfOk result (λ g. StandsFor table bytes g) × IfErr result (λ fault. IsRefusedFor bytes fault)
   answered ls result once begins each answers = by result (answers cat_number)
     where
-      same : Same (grammar by_id s cat_number ls) by_tokens
-      same = grammars_agree (IsLexeme table) (IsText table) by_id by_text (words_agree table once) s cat_number (codes "cat") (has_cat table begins) ls ts each
+      same : Same (grammar by_id stage cat_number ls) by_tokens
+      same = grammars_agree (IsLexeme table) (IsText table) by_id by_text (words_agree table once) stage cat_number (codes "cat") (has_cat table begins) ls ts each
 
-      by : (result : Result Grammar (Fault GrammarCause)) → Answers cat_number end result (grammar by_id s cat_number ls) → IfOk result (λ g. StandsAt s table bytes g) × IfErr result (λ fault. IsDueAt s bytes fault)
+      by : (result : Result Grammar (Fault GrammarCause)) → Answers cat_number end result (grammar by_id stage cat_number ls) → IfOk result (λ g. StandsFor table bytes g) × IfErr result (λ fault. IsRefusedFor bytes fault)
       by (Ok g) h = (stands_for g by_tokens refl (subst (λ (o : Outcome Lexeme Id). Same o by_tokens) h same), tt)
       by (Err Memory) h = (tt, tt)
-      by (Err (Refused c)) h = (tt, refusal_is c (grammar by_id s cat_number ls) h same)
+      by (Err (Refused c)) h = (tt, refusal_is c (grammar by_id stage cat_number ls) h same)

@@ -6,6 +6,7 @@ use Rattle.patr_model.specs.declared.front.Kind.TheVariants.{Less, OpenBrace, Wo
 use Rattle.patr_model.specs.declared.notation.What.TheVariants as what
 use Rattle.patr_model.specs.Lexemes.{is_kind, is_symbol, begins}
 use Rattle.patr_model.specs.Parsing.{Parse, Got, Stops, ◌>>=◌, Reads, one, star, Expected, PathTooLong, LaterForm}
+use Rattle.patr_model.specs.Built.{stage}
 use Rattle.patr_model.specs.Productions.{Item, Single, Head, AnyAttribute, EquationText, FeatureText, Equates, row, symbols_of, word_list, path, equation, braced, begins_ruleitem, rule_equation, ruleitems, begins_feature, single_feature, feature, elements}
 use Rattle.patr_text.specs.declared.fault.Fault.{Fault}
 use Rattle.patr_text.specs.declared.fault.Fault.TheVariants.{Memory, Refused}
@@ -15,7 +16,7 @@ use Rattle.patr_grammar.specs.declared.reader.Refusal.{Refusal}
 use Rattle.patr_grammar.specs.declared.grammar.Item as code_item
 use Rattle.patr_grammar.specs.Reading.{item_seen, right_seen, equation_seen}
 use Rattle.patr_grammar.specs.declared.grammar.Element.{Element}
-use Rattle.patr_grammar.specs.Views.{by_id, stage_of, refusal_seen, Gives, equation_item, feature_item, equations_view, features_view}
+use Rattle.patr_grammar.specs.Views.{by_id, refusal_seen, Gives, equation_item, feature_item, equations_view, features_view}
 use Rattle.patr_grammar.proofs.Features.{closed, elements_is}
 use Rattle.patr_grammar.proofs.Loops.{onto, onto_one, many_from, many_stops, many_ends}
 
@@ -72,54 +73,54 @@ module _ {X : Type 0} (starts : Tokens → Bool) (single : Reads Lexeme Id X) wh
 
 -- ---- equations of a rule
 
-abbrev pub rule_item : Bool → Head Id → Reads Lexeme Id (Item (EquationText Id))
-rule_item b h ts = braced by_id 16 false (begins_ruleitem by_id) (rule_equation by_id (stage_of b) h) ts
+abbrev pub rule_item : Head Id → Reads Lexeme Id (Item (EquationText Id))
+rule_item h ts = braced by_id 16 false (begins_ruleitem by_id) (rule_equation by_id stage h) ts
 
-pub choice_later : (b : Bool) (h : Head Id) (ts : Tokens) → begins (is_kind by_id OpenBrace) ts ≡ true → rule_item b h ts ≡ Stops LaterForm ts
-choice_later b h ts a = braced_later (begins_ruleitem by_id) (rule_equation by_id (stage_of b) h) 15 ts a
+pub choice_later : (h : Head Id) (ts : Tokens) → begins (is_kind by_id OpenBrace) ts ≡ true → rule_item h ts ≡ Stops LaterForm ts
+choice_later h ts a = braced_later (begins_ruleitem by_id) (rule_equation by_id stage h) 15 ts a
 
-pub equation_later : (b : Bool) (h : Head Id) (ts : Tokens) → begins (is_kind by_id OpenBrace) ts ≡ false → (begins (is_kind by_id Less) ts && not b) ≡ true → rule_item b h ts ≡ Stops LaterForm ts
-equation_later b h ts a e = braced_single (begins_ruleitem by_id) (rule_equation by_id (stage_of b) h) 15 ts a
-    ∙ ap (λ (x : Bool). cond x (Stops LaterForm ts) (equation by_id h what.Equation ts) >>= λ x ts. Got (Single x) ts) e
+is_built : (b : Bool) → (b && not true) ≡ false
+is_built true = refl
+is_built false = refl
 
-pub equation_read : (b : Bool) (h : Head Id) (ts : Tokens) → begins (is_kind by_id OpenBrace) ts ≡ false → (begins (is_kind by_id Less) ts && not b) ≡ false → rule_item b h ts ≡ (equation by_id h what.Equation ts >>= λ x ts. Got (Single x) ts)
-equation_read b h ts a e = braced_single (begins_ruleitem by_id) (rule_equation by_id (stage_of b) h) 15 ts a
-    ∙ ap (λ (x : Bool). cond x (Stops LaterForm ts) (equation by_id h what.Equation ts) >>= λ x ts. Got (Single x) ts) e
+pub equation_read : (h : Head Id) (ts : Tokens) → begins (is_kind by_id OpenBrace) ts ≡ false → rule_item h ts ≡ (equation by_id h what.Equation ts >>= λ x ts. Got (Single x) ts)
+equation_read h ts a = braced_single (begins_ruleitem by_id) (rule_equation by_id stage h) 15 ts a
+    ∙ ap (λ (x : Bool). cond x (Stops LaterForm ts) (equation by_id h what.Equation ts) >>= λ x ts. Got (Single x) ts) (is_built (begins (is_kind by_id Less) ts))
 
-pub equation_fails : (b : Bool) (h : Head Id) (f : Fault Refusal) (ts rest : Tokens) → begins (is_kind by_id OpenBrace) ts ≡ false → (begins (is_kind by_id Less) ts && not b) ≡ false
-    → Gives equation_seen (Err f) rest (equation by_id h what.Equation ts) → Gives equation_item (Err f) rest (rule_item b h ts)
-equation_fails b h Memory ts rest a e g = tt
-equation_fails b h (Refused r) ts rest a e g = equation_read b h ts a e ∙ ap (λ (p : Parse Lexeme Id Tokens (EquationText Id)). p >>= λ x ts. Got (Single x) ts) g
+pub equation_fails : (h : Head Id) (f : Fault Refusal) (ts rest : Tokens) → begins (is_kind by_id OpenBrace) ts ≡ false
+    → Gives equation_seen (Err f) rest (equation by_id h what.Equation ts) → Gives equation_item (Err f) rest (rule_item h ts)
+equation_fails h Memory ts rest a g = tt
+equation_fails h (Refused r) ts rest a g = equation_read h ts a ∙ ap (λ (p : Parse Lexeme Id Tokens (EquationText Id)). p >>= λ x ts. Got (Single x) ts) g
 
-abbrev pub item_list : Bool → Head Id → Reads Lexeme Id (List (Item (EquationText Id)))
-item_list b h ts = star (begins_ruleitem by_id) (rule_item b h) ts
+abbrev pub item_list : Head Id → Reads Lexeme Id (List (Item (EquationText Id)))
+item_list h ts = star (begins_ruleitem by_id) (rule_item h) ts
 
-abbrev pub items_from : Bool → Head Id → List (Item (EquationText Id)) → ℕ → Reads Lexeme Id (List (Item (EquationText Id)))
-items_from b h front n ts = many_from (begins_ruleitem by_id) (rule_item b h) front n ts
+abbrev pub items_from : Head Id → List (Item (EquationText Id)) → ℕ → Reads Lexeme Id (List (Item (EquationText Id)))
+items_from h front n ts = many_from (begins_ruleitem by_id) (rule_item h) front n ts
 
-pub items_fail : (b : Bool) (h : Head Id) (f : Fault Refusal) (front : List (Item (EquationText Id))) (n : ℕ) (ts rest start : Tokens) → begins_ruleitem by_id ts ≡ true → length ts ≤ n → items_from b h front n ts ≡ item_list b h start
-    → Gives equation_item (Err f) rest (rule_item b h ts) → Gives equations_view (Err f) rest (ruleitems by_id (stage_of b) h start)
-items_fail b h Memory front n ts rest start s le e g = tt
-items_fail b h (Refused r) front n ts rest start s le e g = ap (λ (p : Parse Lexeme Id Tokens (List (Item (EquationText Id)))). p >>= λ xs ts. Got (row xs) ts)
-    (many_stops (begins_ruleitem by_id) (rule_item b h) front n ts rest (refusal_seen r) (item_list b h start) refl s le e g)
+pub items_fail : (h : Head Id) (f : Fault Refusal) (front : List (Item (EquationText Id))) (n : ℕ) (ts rest start : Tokens) → begins_ruleitem by_id ts ≡ true → length ts ≤ n → items_from h front n ts ≡ item_list h start
+    → Gives equation_item (Err f) rest (rule_item h ts) → Gives equations_view (Err f) rest (ruleitems by_id stage h start)
+items_fail h Memory front n ts rest start s le e g = tt
+items_fail h (Refused r) front n ts rest start s le e g = ap (λ (p : Parse Lexeme Id Tokens (List (Item (EquationText Id)))). p >>= λ xs ts. Got (row xs) ts)
+    (many_stops (begins_ruleitem by_id) (rule_item h) front n ts rest (refusal_seen r) (item_list h start) refl s le e g)
 
-pub items_end : (b : Bool) (h : Head Id) (front : List (Item (EquationText Id))) (n : ℕ) (ts start : Tokens) → begins_ruleitem by_id ts ≡ false → items_from b h front n ts ≡ item_list b h start → ruleitems by_id (stage_of b) h start ≡ Got (row front) ts
-items_end b h front n ts start s e = ap (λ (p : Parse Lexeme Id Tokens (List (Item (EquationText Id)))). p >>= λ xs ts. Got (row xs) ts) (many_ends (begins_ruleitem by_id) (rule_item b h) front n ts (item_list b h start) s e)
+pub items_end : (h : Head Id) (front : List (Item (EquationText Id))) (n : ℕ) (ts start : Tokens) → begins_ruleitem by_id ts ≡ false → items_from h front n ts ≡ item_list h start → ruleitems by_id stage h start ≡ Got (row front) ts
+items_end h front n ts start s e = ap (λ (p : Parse Lexeme Id Tokens (List (Item (EquationText Id)))). p >>= λ xs ts. Got (row xs) ts) (many_ends (begins_ruleitem by_id) (rule_item h) front n ts (item_list h start) s e)
 
 -- ---- features
 
-abbrev pub built_feature : Reads Lexeme Id (Item (FeatureText Id))
-built_feature ts = feature by_id (stage_of true) ts
+abbrev pub one_feature : Reads Lexeme Id (Item (FeatureText Id))
+one_feature ts = feature by_id stage ts
 
-pub feature_choice : (ts : Tokens) → begins (is_kind by_id OpenBrace) ts ≡ true → built_feature ts ≡ Stops LaterForm ts
-feature_choice ts a = braced_later (begins_feature by_id) (single_feature by_id (stage_of true)) 15 ts a
+pub feature_choice : (ts : Tokens) → begins (is_kind by_id OpenBrace) ts ≡ true → one_feature ts ≡ Stops LaterForm ts
+feature_choice ts a = braced_later (begins_feature by_id) (single_feature by_id stage) 15 ts a
 
 symbol_not_less : (t : Lexeme) → is_symbol by_id t ≡ true → is_kind by_id Less t ≡ false
 symbol_not_less t h = grind (arith, nat_tests)
 
-pub feature_name : (ts : Tokens) → begins (is_kind by_id OpenBrace) ts ≡ false → begins (is_symbol by_id) ts ≡ true → built_feature ts ≡ Stops LaterForm ts
+pub feature_name : (ts : Tokens) → begins (is_kind by_id OpenBrace) ts ≡ false → begins (is_symbol by_id) ts ≡ true → one_feature ts ≡ Stops LaterForm ts
 feature_name [] a h = absurd cc
-feature_name (t ∷ ts) a h = braced_single (begins_feature by_id) (single_feature by_id (stage_of true)) 15 (t ∷ ts) a ∙ rw (symbol_not_less t h, h) refl
+feature_name (t ∷ ts) a h = braced_single (begins_feature by_id) (single_feature by_id stage) 15 (t ∷ ts) a ∙ rw (symbol_not_less t h, h) refl
 
 no_less : (ts : Tokens) → begins (is_kind by_id Less) ts ≡ false → equation by_id AnyAttribute what.EquationOrName ts ≡ Stops (Expected what.EquationOrName) ts
 unfolding path equation
@@ -127,21 +128,21 @@ no_less [] h = refl
 no_less (t ∷ ts) h = rw h refl
 
 -- what is no name is read as an equation, or refused as one
-single_is : (ts : Tokens) → begins (is_symbol by_id) ts ≡ false → single_feature by_id (stage_of true) ts ≡ (equation by_id AnyAttribute what.EquationOrName ts >>= λ e ts. Got (Equates e) ts)
+single_is : (ts : Tokens) → begins (is_symbol by_id) ts ≡ false → single_feature by_id stage ts ≡ (equation by_id AnyAttribute what.EquationOrName ts >>= λ e ts. Got (Equates e) ts)
 single_is ts h = by (begins (is_kind by_id Less) ts) refl
   where
     no_name : (ts : Tokens) → begins (is_symbol by_id) ts ≡ false → one {W = Id} (is_symbol by_id) what.EquationOrName ts ≡ Stops (Expected what.EquationOrName) ts
     no_name [] h = refl
     no_name (t ∷ ts) h = rw h refl
 
-    by : (b : Bool) → begins (is_kind by_id Less) ts ≡ b → single_feature by_id (stage_of true) ts ≡ (equation by_id AnyAttribute what.EquationOrName ts >>= λ e ts. Got (Equates e) ts)
+    by : (b : Bool) → begins (is_kind by_id Less) ts ≡ b → single_feature by_id stage ts ≡ (equation by_id AnyAttribute what.EquationOrName ts >>= λ e ts. Got (Equates e) ts)
     by true e = rw e refl
     by false e = rw (e, no_name ts h, no_less ts e) refl
 
 pub feature_read : (ts : Tokens) → begins (is_kind by_id OpenBrace) ts ≡ false → begins (is_symbol by_id) ts ≡ false
-    → built_feature ts ≡ (equation by_id AnyAttribute what.EquationOrName ts >>= λ e ts. Got (Single (Equates e)) ts)
+    → one_feature ts ≡ (equation by_id AnyAttribute what.EquationOrName ts >>= λ e ts. Got (Single (Equates e)) ts)
 feature_read ts a h =
-    braced_single (begins_feature by_id) (single_feature by_id (stage_of true)) 15 ts a
+    braced_single (begins_feature by_id) (single_feature by_id stage) 15 ts a
     ∙ ap (λ (p : Parse Lexeme Id Tokens (FeatureText Id)). p >>= λ x ts. Got (Single x) ts) (single_is ts h)
     ∙ twice (equation by_id AnyAttribute what.EquationOrName ts)
   where
@@ -150,29 +151,29 @@ feature_read ts a h =
     twice (Stops r rest) = refl
 
 pub feature_fails : (f : Fault Refusal) (ts rest : Tokens) → begins (is_kind by_id OpenBrace) ts ≡ false → begins (is_symbol by_id) ts ≡ false
-    → Gives equation_seen (Err f) rest (equation by_id AnyAttribute what.EquationOrName ts) → Gives feature_item (Err f) rest (built_feature ts)
+    → Gives equation_seen (Err f) rest (equation by_id AnyAttribute what.EquationOrName ts) → Gives feature_item (Err f) rest (one_feature ts)
 feature_fails Memory ts rest a h g = tt
 feature_fails (Refused r) ts rest a h g = feature_read ts a h ∙ ap (λ (p : Parse Lexeme Id Tokens (EquationText Id)). p >>= λ e ts. Got (Single (Equates e)) ts) g
 
 abbrev pub feature_list : Reads Lexeme Id (List (Item (FeatureText Id)))
-feature_list ts = star (begins_feature by_id) built_feature ts
+feature_list ts = star (begins_feature by_id) one_feature ts
 
 abbrev pub feature_items : Vec Element Global → List (Item (FeatureText Id))
 feature_items v = map feature_item v.items
 
-pub features_fail : (f : Fault Refusal) (front : List (Item (FeatureText Id))) (n : ℕ) (ts rest start : Tokens) → begins_feature by_id ts ≡ true → length ts ≤ n → many_from (begins_feature by_id) built_feature front n ts ≡ feature_list start
-    → Gives feature_item (Err f) rest (built_feature ts) → Gives feature_items (Err f) rest (feature_list start)
+pub features_fail : (f : Fault Refusal) (front : List (Item (FeatureText Id))) (n : ℕ) (ts rest start : Tokens) → begins_feature by_id ts ≡ true → length ts ≤ n → many_from (begins_feature by_id) one_feature front n ts ≡ feature_list start
+    → Gives feature_item (Err f) rest (one_feature ts) → Gives feature_items (Err f) rest (feature_list start)
 features_fail Memory front n ts rest start s le e g = tt
-features_fail (Refused r) front n ts rest start s le e g = many_stops (begins_feature by_id) built_feature front n ts rest (refusal_seen r) (feature_list start) refl s le e g
+features_fail (Refused r) front n ts rest start s le e g = many_stops (begins_feature by_id) one_feature front n ts rest (refusal_seen r) (feature_list start) refl s le e g
 
-pub elements_fail : (f : Fault Refusal) (ts rest : Tokens) → Gives feature_items (Err f) rest (feature_list ts) → Gives features_view (Err f) rest (elements by_id (stage_of true) ts)
+pub elements_fail : (f : Fault Refusal) (ts rest : Tokens) → Gives feature_items (Err f) rest (feature_list ts) → Gives features_view (Err f) rest (elements by_id stage ts)
 elements_fail Memory ts rest g = tt
-elements_fail (Refused r) ts rest g = elements_is by_id (stage_of true) ts ∙ ap (λ (p : Parse Lexeme Id Tokens (List (Item (FeatureText Id)))). p >>= closed by_id (stage_of true)) g
+elements_fail (Refused r) ts rest g = elements_is by_id stage ts ∙ ap (λ (p : Parse Lexeme Id Tokens (List (Item (FeatureText Id)))). p >>= closed by_id stage) g
 
-pub elements_left : (xs : List (Item (FeatureText Id))) (ts rest : Tokens) → feature_list ts ≡ Got xs rest → 1 ≤ length rest → elements by_id (stage_of true) ts ≡ Stops (Expected what.EquationOrName) rest
+pub elements_left : (xs : List (Item (FeatureText Id))) (ts rest : Tokens) → feature_list ts ≡ Got xs rest → 1 ≤ length rest → elements by_id stage ts ≡ Stops (Expected what.EquationOrName) rest
 elements_left xs ts [] e some = absurd (omega arith)
-elements_left xs ts (t ∷ rest) e some = elements_is by_id (stage_of true) ts ∙ ap (λ (p : Parse Lexeme Id Tokens (List (Item (FeatureText Id)))). p >>= closed by_id (stage_of true)) e
+elements_left xs ts (t ∷ rest) e some = elements_is by_id stage ts ∙ ap (λ (p : Parse Lexeme Id Tokens (List (Item (FeatureText Id)))). p >>= closed by_id stage) e
 
-pub elements_end : (xs : List (Item (FeatureText Id))) (ts rest : Tokens) → feature_list ts ≡ Got xs rest → length rest ≡ 0 → elements by_id (stage_of true) ts ≡ Got (row xs) rest
-elements_end xs ts [] e none = elements_is by_id (stage_of true) ts ∙ ap (λ (p : Parse Lexeme Id Tokens (List (Item (FeatureText Id)))). p >>= closed by_id (stage_of true)) e
+pub elements_end : (xs : List (Item (FeatureText Id))) (ts rest : Tokens) → feature_list ts ≡ Got xs rest → length rest ≡ 0 → elements by_id stage ts ≡ Got (row xs) rest
+elements_end xs ts [] e none = elements_is by_id stage ts ∙ ap (λ (p : Parse Lexeme Id Tokens (List (Item (FeatureText Id)))). p >>= closed by_id stage) e
 elements_end xs ts (t ∷ rest) e none = absurd (omega arith)

@@ -8,7 +8,6 @@ use Rattle.patr_model.specs.GrammarText as reading
 use Rattle.patr_model.specs.GrammarText.{GrammarFault, NotText, Misread, ReadsGrammar, RefusesGrammar}
 use Rattle.patr_model.specs.Agreeing.{SameGrammar}
 use Rattle.patr_model.specs.Built.{stage}
-use Rattle.patr_model.specs.Stages.{Stage}
 use Rattle.patr_text.specs.declared.symbols.Id.{Id}
 use Rattle.patr_text.specs.declared.fault.Fault.{Fault}
 use Rattle.patr_text.specs.declared.fault.Fault.TheVariants.{Memory, Refused}
@@ -83,13 +82,9 @@ grammar_seen cat g = record { rules = map rule_seen g.rules.items; templates = [
 abbrev pub IsGrammar : List (List ℕ) → code_grammar.Grammar → Grammar (List ℕ) → Type 0
 IsGrammar table g t = SameGrammar (IsText table) (grammar_seen cat_number g) t
 
--- the grammar is what the bytes stand for at a stage
-abbrev pub StandsAt : Stage → List (List ℕ) → List ℕ → code_grammar.Grammar → Type 0
-StandsAt s table bytes g = (t : Grammar (List ℕ)) × ReadsGrammar s bytes t × IsGrammar table g t
-
 -- the grammar is what the bytes stand for
 abbrev pub StandsFor : List (List ℕ) → List ℕ → code_grammar.Grammar → Type 0
-StandsFor = StandsAt stage
+StandsFor table bytes g = (t : Grammar (List ℕ)) × ReadsGrammar stage bytes t × IsGrammar table g t
 
 -- a cause of the code
 abbrev pub fault_of : GrammarCause → GrammarFault
@@ -102,11 +97,7 @@ fault_of (cause.TooManySymbols line column) = Misread (reading.Refused parsing.T
 fault_of cause.NoRules = Misread reading.NoRules
 fault_of (cause.LaterForm line column) = Misread (reading.Refused parsing.LaterForm (record { line = line; column = column }))
 
--- a refusal is due at a stage; want of memory may come at any time
-abbrev pub IsDueAt : Stage → List ℕ → Fault GrammarCause → Type 0
-IsDueAt s bytes Memory = Unit {0}
-IsDueAt s bytes (Refused c) = RefusesGrammar s bytes (fault_of c)
-
--- a refusal is due
+-- a refusal is due; want of memory may come at any time
 abbrev pub IsRefusedFor : List ℕ → Fault GrammarCause → Type 0
-IsRefusedFor = IsDueAt stage
+IsRefusedFor bytes Memory = Unit {0}
+IsRefusedFor bytes (Refused c) = RefusesGrammar stage bytes (fault_of c)

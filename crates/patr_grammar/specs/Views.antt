@@ -1,15 +1,14 @@
 -- What the reader passes on, as the definitions see it.
-use Rattle.std.specs.Prelude.{◌≡◌, ℕ, ◌+◌, ◌-◌, ◌<◌, List, [], ◌∷◌, Bool, true, false, cond, nat_eq, Result, Ok, Err}
+use Rattle.std.specs.Prelude.{◌≡◌, ℕ, ◌+◌, ◌-◌, ◌<◌, List, [], ◌∷◌, nat_eq, Result, Ok, Err}
 use Rattle.std.specs.declared.vec.Vec.{Vec}
 use Rattle.std.specs.declared.alloc.Global.{Global}
-use Rattle.patr_model.specs.Grammar.{Row, Done}
+use Rattle.patr_model.specs.Grammar.{Row}
 use Rattle.patr_model.specs.Tokens.{Place, Token}
 use Rattle.patr_model.specs.Lexemes.{Words, key_of, without_index}
 use Rattle.patr_model.specs.Parsing as parsing
-use Rattle.patr_model.specs.Parsing.{Parse, Got, Stops, Reads}
+use Rattle.patr_model.specs.Parsing.{Parse, Got, Stops}
 use Rattle.patr_model.specs.Productions as production
-use Rattle.patr_model.specs.Stages.{Stage}
-use Rattle.patr_model.specs.Productions.{Item, Single, Equates, FeatureText, EquationText, Left, Clause, RuleClause, Outcome, Stands, Refused, symbols_of, elements}
+use Rattle.patr_model.specs.Productions.{Item, Single, Equates, FeatureText, EquationText, Left, Clause, RuleClause, Outcome, Stands, Refused, symbols_of}
 use Rattle.patr_text.specs.declared.fault.Fault as fault
 use Rattle.patr_text.specs.declared.fault.Fault.TheVariants as faulty
 use Rattle.patr_text.specs.declared.symbols.Id.{Id}
@@ -70,10 +69,6 @@ first_place end [] = end
 first_place end (t ∷ ts) = by_id.place t
 
 -- ---- what is read
-
--- the stage at which path equations are read, or are a later form, and all other forms are later ones
-abbrev pub stage_of : Bool → Stage
-stage_of equations = record { equations = equations; groups = false; lexical_rules = false; parameters = false }
 
 -- a refusal of the code
 abbrev pub refusal_seen : Refusal → parsing.Refusal Id
@@ -154,15 +149,6 @@ Answers cat end (Err (faulty.Refused cause.NoRules)) o = o ≡ production.NoRule
 Answers cat end (Err (faulty.Refused (cause.LaterForm line column))) o = IsRefusedAt parsing.LaterForm line column end o
 
 -- ---- what the lexemes of features stand for
-
--- before equations are built, each token is a later form
-abbrev pub no_features : {T W : Type 0} → Reads T W (Row (FeatureText W))
-no_features [] = Got Done []
-no_features (t ∷ ts) = Stops parsing.LaterForm (t ∷ ts)
-
--- features up to the end, where equations are built or not
-abbrev pub features_by : {T W : Type 0} → Words T W → Bool → Reads T W (Row (FeatureText W))
-features_by words built ts = cond built (elements words (stage_of true) ts) (no_features ts)
 
 -- a lexeme, or the end, is refused at this place
 abbrev pub StopsAt : {X : Type 0} → parsing.Refusal Id → ℕ → ℕ → Place → Parse Lexeme Id (List Lexeme) X → Type 0

@@ -1,11 +1,10 @@
 //! Reading path equations from lexemes.
-ghost use Rattle.std.specs.Prelude.{◌≡◌, ◌<◌, ◌≤◌, length, map, OnOk, false, true, ◌&&◌, not};
-ghost use Rattle.patr_model.specs.declared.front.Kind.TheVariants.{Less};
-ghost use Rattle.patr_model.specs.Lexemes.{is_kind, begins};
+ghost use Rattle.std.specs.Prelude.{◌≡◌, ◌<◌, ◌≤◌, length, map, OnOk};
+ghost use Rattle.patr_model.specs.Built.{stage};
 ghost use Rattle.patr_model.specs.Parsing.{star};
 ghost use Rattle.patr_model.specs.Productions.{head, attributes, path, term, equation, braced, begins_ruleitem, rule_equation, ruleitems, begins_feature, single_feature, feature, elements};
 ghost use Rattle.patr_grammar.specs.Reading.{path_seen, term_seen, equation_seen};
-ghost use Rattle.patr_grammar.specs.Views.{by_id, stage_of, head_seen, Gives, equation_item, feature_item, equations_view, features_view, features_by};
+ghost use Rattle.patr_grammar.specs.Views.{by_id, head_seen, Gives, equation_item, feature_item, equations_view, features_view};
 
 use crate::grammar::{Element, EquationText, PathText, TermText};
 use crate::head::Head;
@@ -32,7 +31,7 @@ impl Reader<'_> {
         }
     }
 
-    /// The words that follow, of which there may be so many.
+    /// The words that follow the first one of a path, of which there may be so many.
     fn attributes(&mut self, room: usize) -> Result<Vec<Id>, Fault<Refusal>>
         ensures gives { Gives (λ v. v.items) result self.new.rest.now (attributes by_id room self.old.rest.now) }
         ensures shorter { length self.new.rest.now ≤ length self.old.rest.now }
@@ -41,11 +40,7 @@ impl Reader<'_> {
         let mut left = room;
         'words: loop {
             match self.rest {
-                [] => return Ok(found),
-                [first, rest @ ..] => {
-                    if !first.is_kind(Kind::Word) {
-                        return Ok(found);
-                    }
+                [first, rest @ ..] if first.is_kind(Kind::Word) => {
                     if left == 0 {
                         return Err(Fault::Refused(Refusal::PathTooLong));
                     }
@@ -53,6 +48,7 @@ impl Reader<'_> {
                     left -= 1;
                     self.rest = rest;
                 }
+                _ => return Ok(found),
             }
         }
     }
@@ -64,10 +60,10 @@ impl Reader<'_> {
         ensures shorter { OnOk result (length self.new.rest.now < length self.old.rest.now) }
     {
         self.one(Kind::Less, what)?;
-        let word = self.head(head)?;
+        let first = self.head(head)?;
         let further = self.attributes(head.room())?;
         self.one(Kind::Greater, What::Greater)?;
-        Ok(head.path(word.word, further)?)
+        Ok(head.path(first.word, further)?)
     }
 
     /// What a path equals: another path, or an atom.
@@ -103,22 +99,12 @@ impl Reader<'_> {
         self.begins(Kind::Less) || self.begins(Kind::OpenBrace)
     }
 
-    /// An equation begins here, and is not built yet.
-    fn begins_later_equation(&self, built: bool) -> bool
-        ensures { result ≡ (begins (is_kind by_id Less) self.now.rest.now && not built) }
-    {
-        self.begins(Kind::Less) && !built
-    }
-
-    /// An equation of a rule, where equations are built; choices are not built yet.
-    fn rule_item(&mut self, built: bool, head: Head) -> Result<Element, Fault<Refusal>>
-        ensures gives { Gives equation_item result self.new.rest.now (braced by_id 16 false (begins_ruleitem by_id) (rule_equation by_id (stage_of built) (head_seen head.entry)) self.old.rest.now) }
+    /// An equation of a rule. Choices are not built yet.
+    fn rule_item(&mut self, head: Head) -> Result<Element, Fault<Refusal>>
+        ensures gives { Gives equation_item result self.new.rest.now (braced by_id 16 stage.groups (begins_ruleitem by_id) (rule_equation by_id stage (head_seen head.entry)) self.old.rest.now) }
         ensures shorter { OnOk result (length self.new.rest.now < length self.old.rest.now) }
     {
         if self.begins(Kind::OpenBrace) {
-            return Err(Fault::Refused(Refusal::LaterForm));
-        }
-        if self.begins_later_equation(built) {
             return Err(Fault::Refused(Refusal::LaterForm));
         }
         let equation = self.equation(head, What::Equation)?;
@@ -126,13 +112,13 @@ impl Reader<'_> {
     }
 
     /// The equations of a rule.
-    pub fn rule_items(&mut self, built: bool, head: Head) -> Result<Vec<Element>, Fault<Refusal>>
-        ensures gives { Gives equations_view result self.new.rest.now (ruleitems by_id (stage_of built) (head_seen head.entry) self.old.rest.now) }
+    pub fn rule_items(&mut self, head: Head) -> Result<Vec<Element>, Fault<Refusal>>
+        ensures gives { Gives equations_view result self.new.rest.now (ruleitems by_id stage (head_seen head.entry) self.old.rest.now) }
         ensures shorter { OnOk result (length self.new.rest.now ≤ length self.old.rest.now) }
     {
         let mut equations = Vec::new(self.alloc);
         while self.begins_rule_item() {
-            let equation = self.rule_item(built, head)?;
+            let equation = self.rule_item(head)?;
             equations.push(equation)?;
         }
         Ok(equations)
@@ -147,7 +133,7 @@ impl Reader<'_> {
 
     /// A feature: an equation. Choices and names are not built yet.
     fn feature(&mut self) -> Result<Element, Fault<Refusal>>
-        ensures gives { Gives feature_item result self.new.rest.now (feature by_id (stage_of true) self.old.rest.now) }
+        ensures gives { Gives feature_item result self.new.rest.now (feature by_id stage self.old.rest.now) }
         ensures shorter { OnOk result (length self.new.rest.now < length self.old.rest.now) }
     {
         if self.begins(Kind::OpenBrace) {
@@ -162,7 +148,7 @@ impl Reader<'_> {
 
     /// Features as long as one may begin.
     fn features(&mut self) -> Result<Vec<Element>, Fault<Refusal>>
-        ensures gives { Gives (λ v. map feature_item v.items) result self.new.rest.now (star (begins_feature by_id) (feature by_id (stage_of true)) self.old.rest.now) }
+        ensures gives { Gives (λ v. map feature_item v.items) result self.new.rest.now (star (begins_feature by_id) (feature by_id stage) self.old.rest.now) }
     {
         let mut features = Vec::new(self.alloc);
         while self.begins_feature() {
@@ -172,27 +158,14 @@ impl Reader<'_> {
         Ok(features)
     }
 
-    /// Features up to the end, where equations are built.
-    fn built_elements(&mut self) -> Result<Vec<Element>, Fault<Refusal>>
-        ensures gives { Gives features_view result self.new.rest.now (elements by_id (stage_of true) self.old.rest.now) }
+    /// Features up to the end.
+    pub fn elements(&mut self) -> Result<Vec<Element>, Fault<Refusal>>
+        ensures gives { Gives features_view result self.new.rest.now (elements by_id stage self.old.rest.now) }
     {
         let features = self.features()?;
         if !self.rest.is_empty() {
             return Err(Fault::Refused(Refusal::Expected(What::EquationOrName)));
         }
         Ok(features)
-    }
-
-    /// Features up to the end. Before equations are built there may be none.
-    pub fn elements(&mut self, built: bool) -> Result<Vec<Element>, Fault<Refusal>>
-        ensures gives { Gives features_view result self.new.rest.now (features_by by_id built self.old.rest.now) }
-    {
-        if built {
-            return self.built_elements();
-        }
-        if !self.rest.is_empty() {
-            return Err(Fault::Refused(Refusal::LaterForm));
-        }
-        Ok(Vec::new(self.alloc))
     }
 }

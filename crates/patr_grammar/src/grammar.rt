@@ -70,7 +70,7 @@ pub struct Grammar {
 /// Why bytes stand for no grammar. Lines and columns count from 1, columns in bytes.
 #[derive(Clone, Copy, Debug, PartialEq, Eq, Error)]
 pub enum GrammarCause {
-    /// The bytes are no text; so many of them are, at most.
+    /// The bytes are no text; `at` is the length of their longest front that is one.
     #[error("not UTF-8 at byte {at}")]
     NotUtf8 { at: u64 },
     /// A control character stands outside a comment.

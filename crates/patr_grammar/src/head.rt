@@ -83,13 +83,13 @@ impl Head<'_> {
     pub fn path(self, word: Id, further: Vec<Id>) -> Result<PathText, Memory>
         ensures { IfOk result (λ p. path_seen p ≡ headed (head_seen self.entry) word further.items) }
     {
-        let mut attributes = further;
         match self {
             Head::AmongSymbols { .. } => Ok(PathText {
                 head: Some(word),
-                attributes,
+                attributes: further,
             }),
             Head::AnyAttribute => {
+                let mut attributes = further;
                 attributes.insert(0, word)?;
                 Ok(PathText {
                     head: None,

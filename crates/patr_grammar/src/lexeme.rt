@@ -1,8 +1,11 @@
 //! Tokens with the numbers of their texts.
 ghost use Rattle.std.specs.Prelude.{◌≡◌};
 ghost use Rattle.patr_model.specs.Lexemes.{is_kind, is_key, is_clause_word, is_symbol};
+ghost use Rattle.patr_model.specs.Productions.{symbol_of};
+ghost use Rattle.patr_grammar.specs.Reading.{symbol_seen};
 ghost use Rattle.patr_grammar.specs.Views.{by_id};
 
+use crate::grammar::SymbolText;
 use patr_model::{Key, Kind};
 use patr_text::Id;
 
@@ -53,5 +56,15 @@ impl Lexeme {
         ensures { result ≡ is_symbol by_id self.now }
     {
         self.is_kind(Kind::Word) && !self.is_clause_word()
+    }
+
+    /// The symbol that it is, with its category.
+    pub fn symbol_text(&self) -> SymbolText
+        ensures { symbol_seen result ≡ symbol_of by_id self.now }
+    {
+        SymbolText {
+            symbol: self.word,
+            category: self.category,
+        }
     }
 }

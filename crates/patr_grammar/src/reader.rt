@@ -4,12 +4,12 @@ ghost use Rattle.patr_model.specs.declared.front.Kind.TheVariants.{Arrow, OpenBr
 ghost use Rattle.patr_model.specs.declared.notation.What.TheVariants.{Symbol};
 ghost use Rattle.patr_model.specs.Lexemes.{is_kind, is_key, is_symbol, begins};
 ghost use Rattle.patr_model.specs.Parsing.{one, maybe};
-ghost use Rattle.patr_model.specs.Stages.{plain_rules};
+ghost use Rattle.patr_model.specs.Built.{stage};
 ghost use Rattle.patr_model.specs.Productions.{Single, name_tokens, rule_name, opens_equations, begins_outer, item, right_side, rule, clause, clauses};
 ghost use Rattle.patr_grammar.specs.Reading.{item_seen, rule_seen};
-ghost use Rattle.patr_grammar.specs.Views.{by_id, stage_of, left_over, Gives, GivesAt, right_view, rule_view};
+ghost use Rattle.patr_grammar.specs.Views.{by_id, left_over, Gives, GivesAt, right_view, rule_view};
 
-use crate::grammar::{Item, RuleText, SymbolText};
+use crate::grammar::{Item, RuleText};
 use crate::head::Head;
 use crate::lexeme::Lexeme;
 use patr_model::{Key, Kind, What};
@@ -40,8 +40,6 @@ pub struct Reader<'a> {
     pub alloc: Global,
     /// The lexemes that are not read yet.
     pub rest: &'a [Lexeme],
-    /// How many symbols the right side may still have.
-    pub left: usize,
 }
 
 impl Reader<'_> {
@@ -181,19 +179,14 @@ impl Reader<'_> {
     fn begins_item(&self) -> bool
         ensures { result ≡ begins_outer by_id self.now.rest.now }
     {
-        match self.rest {
-            [] => false,
-            [first, ..] => {
-                first.is_symbol()
-                    || first.is_kind(Kind::OpenParen)
-                    || first.is_kind(Kind::OpenBrace) && !self.opens_equations()
-            }
-        }
+        self.begins_symbol()
+            || self.begins(Kind::OpenParen)
+            || self.begins(Kind::OpenBrace) && !self.opens_equations()
     }
 
-    /// An item of a right side.
-    fn item(&mut self) -> Result<Item, Fault<Refusal>>
-        ensures gives { GivesAt (λ i. Single (item_seen i)) result (left_over self.new.left self.new.rest.now) self.new.rest.now (item by_id false 16 (left_over self.old.left self.old.rest.now)) }
+    /// An item of a right side that may have so many symbols more. Groups are not built yet.
+    fn item(&mut self, left: &mut usize) -> Result<Item, Fault<Refusal>>
+        ensures gives { GivesAt (λ i. Single (item_seen i)) result (left_over left.new self.new.rest.now) self.new.rest.now (item by_id stage.groups 16 (left_over left.old self.old.rest.now)) }
         ensures shorter { OnOk result (length self.new.rest.now < length self.old.rest.now) }
         ensures no_longer { length self.new.rest.now ≤ length self.old.rest.now }
     {
@@ -201,33 +194,27 @@ impl Reader<'_> {
             return Err(Fault::Refused(Refusal::LaterForm));
         }
         match self.rest {
-            [] => Err(Fault::Refused(Refusal::Expected(What::Symbol))),
-            [first, rest @ ..] => {
-                if !first.is_symbol() {
-                    return Err(Fault::Refused(Refusal::Expected(What::Symbol)));
-                }
-                if self.left == 0 {
+            [first, rest @ ..] if first.is_symbol() => {
+                if *left == 0 {
                     return Err(Fault::Refused(Refusal::TooManySymbols));
                 }
                 self.rest = rest;
-                self.left -= 1;
-                Ok(Item::Symbol(SymbolText {
-                    symbol: first.word,
-                    category: first.category,
-                }))
+                *left -= 1;
+                Ok(Item::Symbol(first.symbol_text()))
             }
+            _ => Err(Fault::Refused(Refusal::Expected(What::Symbol))),
         }
     }
 
     /// The right side of a rule.
     fn right_side(&mut self) -> Result<Vec<Item>, Fault<Refusal>>
-        ensures gives { Gives right_view result self.new.rest.now (right_side by_id plain_rules self.old.rest.now) }
+        ensures gives { Gives right_view result self.new.rest.now (right_side by_id stage self.old.rest.now) }
         ensures shorter { length self.new.rest.now ≤ length self.old.rest.now }
     {
         let mut right = Vec::new(self.alloc);
-        self.left = MOST_SYMBOLS;
+        let mut left = MOST_SYMBOLS;
         while self.begins_item() {
-            let item = self.item()?;
+            let item = self.item(&mut left)?;
             right.push(item)?;
         }
         Ok(right)
@@ -235,11 +222,11 @@ impl Reader<'_> {
 
     /// A rule.
     #[tactic(auto, unfolding(patr_model::specs::Productions::rule))]
-    fn rule(&mut self, equations: bool) -> Result<RuleText, Fault<Refusal>>
-        ensures gives { Gives rule_seen result self.new.rest.now (rule by_id (stage_of equations) self.old.rest.now) }
+    fn rule(&mut self) -> Result<RuleText, Fault<Refusal>>
+        ensures gives { Gives rule_seen result self.new.rest.now (rule by_id stage self.old.rest.now) }
         ensures shorter { OnOk result (length self.new.rest.now < length self.old.rest.now) }
     {
-        let word = self.key(Key::Rule, What::Clause)?;
+        let keyword = self.key(Key::Rule, What::Clause)?;
         let name = self.rule_name()?;
         let mother = self.symbol()?;
         self.one(Kind::Arrow, What::Arrow)?;
@@ -249,45 +236,39 @@ impl Reader<'_> {
             mother: mother.word,
             right: &right,
         };
-        let equations = self.rule_items(equations, head)?;
+        let equations = self.rule_items(head)?;
         self.pass(Kind::Dot);
         Ok(RuleText {
-            line: word.line,
+            line: keyword.line,
             name,
-            mother: SymbolText {
-                symbol: mother.word,
-                category: mother.category,
-            },
+            mother: mother.symbol_text(),
             right,
             equations,
         })
     }
 
     /// A clause, of which rules alone are built.
-    fn clause(&mut self, equations: bool) -> Result<RuleText, Fault<Refusal>>
-        ensures gives { Gives rule_view result self.new.rest.now (clause by_id (stage_of equations) [] self.old.rest.now) }
+    fn clause(&mut self) -> Result<RuleText, Fault<Refusal>>
+        ensures gives { Gives rule_view result self.new.rest.now (clause by_id stage [] self.old.rest.now) }
         ensures shorter { OnOk result (length self.new.rest.now < length self.old.rest.now) }
     {
-        if self.begins_key(Key::Let) {
+        if self.begins_key(Key::Let)
+            || self.begins_key(Key::Define)
+            || self.begins_key(Key::Parameter)
+        {
             return Err(Fault::Refused(Refusal::LaterForm));
         }
-        if self.begins_key(Key::Define) {
-            return Err(Fault::Refused(Refusal::LaterForm));
-        }
-        if self.begins_key(Key::Parameter) {
-            return Err(Fault::Refused(Refusal::LaterForm));
-        }
-        self.rule(equations)
+        self.rule()
     }
 
     /// Clauses up to the end.
-    pub fn clauses(&mut self, equations: bool) -> Result<Vec<RuleText>, Fault<Refusal>>
-        ensures gives { Gives (λ v. map rule_view v.items) result self.new.rest.now (clauses by_id (stage_of equations) (length self.old.rest.now) [] self.old.rest.now) }
+    pub fn clauses(&mut self) -> Result<Vec<RuleText>, Fault<Refusal>>
+        ensures gives { Gives (λ v. map rule_view v.items) result self.new.rest.now (clauses by_id stage (length self.old.rest.now) [] self.old.rest.now) }
         ensures few { IfOk result (λ v. length v.items ≤ length self.old.rest.now) }
     {
         let mut rules = Vec::new(self.alloc);
         while !self.rest.is_empty() {
-            let rule = self.clause(equations)?;
+            let rule = self.clause()?;
             rules.push(rule)?;
         }
         Ok(rules)

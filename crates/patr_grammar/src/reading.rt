@@ -3,13 +3,13 @@ ghost use Rattle.std.specs.Prelude.{◌≡◌, ◌+◌, ◌-◌, ◌^◌, ◌<�
 ghost use Rattle.std.specs.List.{All};
 ghost use Rattle.patr_model.specs.Tokens.{after, start_place};
 ghost use Rattle.patr_model.specs.Built.{stage};
-ghost use Rattle.patr_model.specs.Productions.{grammar};
+ghost use Rattle.patr_model.specs.Productions.{grammar, elements};
 ghost use Rattle.patr_text.specs.declared.symbols.Id.{Id};
 ghost use Rattle.patr_text.specs.Texts.{Extends};
 ghost use Rattle.patr_grammar.specs.declared.grammar.RuleText.{RuleText};
-ghost use Rattle.patr_grammar.specs.Reading.{StandsAt, StandsFor, IsDueAt, IsRefusedFor};
+ghost use Rattle.patr_grammar.specs.Reading.{StandsFor, IsRefusedFor};
 ghost use Rattle.patr_grammar.specs.Features.{StandForFeatures, AreRefusedFor};
-ghost use Rattle.patr_grammar.specs.Views.{IsSpelled, bytes_of, by_id, stage_of, cause_at, Answers, features_by, AnswersFeatures};
+ghost use Rattle.patr_grammar.specs.Views.{IsSpelled, bytes_of, by_id, cause_at, Answers, AnswersFeatures};
 
 use crate::grammar::{Element, Grammar, GrammarCause, RuleText};
 use crate::lexeme::Lexeme;
@@ -18,9 +18,6 @@ use crate::place::{Place, place_of};
 use crate::reader::{Reader, Refusal};
 use patr_text::{BadToken, Fault, Symbols, Token, tokens};
 use std::alloc::Global;
-
-/// Path equations are built: else the first one is refused as a later form.
-const EQUATIONS: bool = false;
 
 /// The cause of a refusal at a place.
 fn cause_at(refusal: Refusal, place: Place) -> GrammarCause
@@ -51,23 +48,15 @@ fn grammar_of(rules: Vec<RuleText>) -> Option<Grammar>
     Some(Grammar { rules, start })
 }
 
-/// What the lexemes of a text stand for, where path equations are built or not.
-fn read(
-    alloc: Global,
-    text: &str,
-    lexemes: &[Lexeme],
-    equations: bool,
-) -> Result<Grammar, Fault<GrammarCause>>
+/// What the lexemes of a text stand for.
+fn read(alloc: Global, text: &str, lexemes: &[Lexeme]) -> Result<Grammar, Fault<GrammarCause>>
     requires { length text.now < 2 ^ 32 - 1 }
-    ensures answers { (cat : Id) → Answers cat (after start_place text.now) result (grammar by_id (stage_of equations) cat lexemes.now) }
+    ensures answers { (cat : Id) → Answers cat (after start_place text.now) result (grammar by_id stage cat lexemes.now) }
     ensures few { IfOk result (λ g. length g.rules.items ≤ length lexemes.now) }
 {
-    let mut reader = Reader {
-        alloc,
-        rest: lexemes,
-        left: 0,
-    };
-    match reader.clauses(equations) {
+    let rest = lexemes;
+    let mut reader = Reader { alloc, rest };
+    match reader.clauses() {
         Ok(rules) => grammar_of(rules).ok_or(Fault::Refused(GrammarCause::NoRules)),
         Err(Fault::Memory) => Err(Fault::Memory),
         Err(Fault::Refused(refusal)) => {
@@ -75,59 +64,6 @@ fn read(
             Err(Fault::Refused(cause_at(refusal, place)))
         }
     }
-}
-
-/// What the lexemes of features stand for that end with a text, where path equations are built or
-/// not.
-fn features(
-    alloc: Global,
-    text: &str,
-    lexemes: &[Lexeme],
-    equations: bool,
-) -> Result<Vec<Element>, Fault<GrammarCause>>
-    requires { length text.now < 2 ^ 32 - 1 }
-    ensures answers { AnswersFeatures (after start_place text.now) result (features_by by_id equations lexemes.now) }
-{
-    let mut reader = Reader {
-        alloc,
-        rest: lexemes,
-        left: 0,
-    };
-    match reader.elements(equations) {
-        Ok(elements) => Ok(elements),
-        Err(Fault::Memory) => Err(Fault::Memory),
-        Err(Fault::Refused(refusal)) => {
-            let place = place_of(text, reader.rest);
-            Err(Fault::Refused(cause_at(refusal, place)))
-        }
-    }
-}
-
-/// What a text stands for, where path equations are built or not.
-pub fn read_text(
-    alloc: Global,
-    symbols: &mut Symbols,
-    text: &str,
-    equations: bool,
-) -> Result<Grammar, Fault<GrammarCause>>
-    requires { length symbols.old + length text.now < 2 ^ 32 - 1 }
-    ensures reads { IfOk result (λ g. StandsAt (stage_of equations) symbols.new text.now g) }
-    ensures few { IfOk result (λ g. length g.rules.items ≤ length text.now) }
-    ensures refused { IfErr result (λ fault. IsDueAt (stage_of equations) text.now fault) }
-    ensures extends { Extends symbols.old symbols.new }
-    ensures growth { length symbols.new ≤ length symbols.old + length text.now }
-{
-    let tokens = match tokens(alloc, text, 0, text.len(), 1, 1) {
-        Ok(tokens) => tokens,
-        Err(Fault::Memory) => return Err(Fault::Memory),
-        Err(Fault::Refused(BadToken { line, column })) => {
-            return Err(Fault::Refused(GrammarCause::BadToken { line, column }));
-        }
-    };
-    let lexemes = lexemes(alloc, symbols, text, &tokens)?;
-    // The table has `cat`, and no text of it stands twice: `len` says so.
-    symbols.len();
-    read(alloc, text, &lexemes, equations)
 }
 
 /// What the bytes of a grammar stand for, with the numbers that the table gives to its symbols.
@@ -146,34 +82,45 @@ pub fn read_grammar(
     ensures extends { Extends symbols.old symbols.new }
     ensures growth { length symbols.new ≤ length symbols.old + length bytes.now }
 {
-    match str::from_utf8(bytes) {
-        Ok(text) => read_text(alloc, symbols, text, EQUATIONS),
-        Err(error) => Err(Fault::Refused(GrammarCause::NotUtf8 {
-            at: error.valid_up_to() as u64,
-        })),
-    }
+    let text = match str::from_utf8(bytes) {
+        Ok(text) => text,
+        Err(error) => {
+            let at = error.valid_up_to() as u64;
+            return Err(Fault::Refused(GrammarCause::NotUtf8 { at }));
+        }
+    };
+    let tokens = match tokens(alloc, text, 0, text.len(), 1, 1) {
+        Ok(tokens) => tokens,
+        Err(Fault::Memory) => return Err(Fault::Memory),
+        Err(Fault::Refused(BadToken { line, column })) => {
+            return Err(Fault::Refused(GrammarCause::BadToken { line, column }));
+        }
+    };
+    let lexemes = lexemes(alloc, symbols, text, &tokens)?;
+    // The table has `cat`, and no text of it stands twice: `len` says so.
+    symbols.len();
+    read(alloc, text, &lexemes)
 }
 
-/// What features stand for, where path equations are built or not.
-pub fn elements(
+/// What the lexemes of features stand for that end with a text.
+fn features(
     alloc: Global,
-    symbols: &mut Symbols,
     text: &str,
-    tokens: &[Token],
-    equations: bool,
+    lexemes: &[Lexeme],
 ) -> Result<Vec<Element>, Fault<GrammarCause>>
-    requires short { length text.now < 2 ^ 32 - 1 }
-    requires spelled { All (IsSpelled text.now) tokens.now }
-    requires room { length symbols.old + bytes_of tokens.now < 2 ^ 32 - 1 }
-    ensures reads { IfOk result (λ elements. StandForFeatures (stage_of equations) symbols.new text.now tokens.now elements.items) }
-    ensures refused { IfErr result (λ fault. AreRefusedFor (stage_of equations) text.now tokens.now fault) }
-    ensures extends { Extends symbols.old symbols.new }
-    ensures growth { length symbols.new ≤ length symbols.old + bytes_of tokens.now }
+    requires { length text.now < 2 ^ 32 - 1 }
+    ensures answers { AnswersFeatures (after start_place text.now) result (elements by_id stage lexemes.now) }
 {
-    let lexemes = lexemes(alloc, symbols, text, tokens)?;
-    // No text of the table stands twice: `len` says so.
-    symbols.len();
-    features(alloc, text, &lexemes, equations)
+    let rest = lexemes;
+    let mut reader = Reader { alloc, rest };
+    match reader.elements() {
+        Ok(elements) => Ok(elements),
+        Err(Fault::Memory) => Err(Fault::Memory),
+        Err(Fault::Refused(refusal)) => {
+            let place = place_of(text, reader.rest);
+            Err(Fault::Refused(cause_at(refusal, place)))
+        }
+    }
 }
 
 /// What features stand for, whose tokens are slices of a text and end with it, with the numbers that
@@ -195,5 +142,8 @@ pub fn read_elements(
     ensures extends { Extends symbols.old symbols.new }
     ensures growth { length symbols.new ≤ length symbols.old + bytes_of tokens.now }
 {
-    elements(alloc, symbols, text, tokens, EQUATIONS)
+    let lexemes = lexemes(alloc, symbols, text, tokens)?;
+    // No text of the table stands twice: `len` says so.
+    symbols.len();
+    features(alloc, text, &lexemes)
 }

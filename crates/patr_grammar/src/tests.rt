@@ -1,14 +1,13 @@
 ghost use Rattle.std.specs.Prelude.{◌+◌, ◌-◌, ◌^◌, ◌<◌, length};
 
 use super::*;
-use crate::reading::{elements, read_text};
 use patr_text::{Fault, Id, Symbols, tokens};
 use std::alloc::Global;
 use std::process::Abort;
 use std::test::Fail;
 
 /// Grammars, and what they are read as.
-const GRAMMARS: [(&[u8], &str); 36] = [
+const GRAMMARS: [(&[u8], &str); 35] = [
     (
         b"Rule S -> NP VP\nRule NP -> Det N\nRule VP -> V\n",
         "1 S:S -> NP:NP VP:VP|2 NP:NP -> Det:Det N:N|3 VP:VP -> V:V|start S",
@@ -40,7 +39,7 @@ const GRAMMARS: [(&[u8], &str); 36] = [
     (b"Rule rule -> A", "1:6: expected a symbol"),
     (b"Rule ( -> A", "1:6: expected a symbol"),
     (b"Rule S -> rule -> B", "1:16: expected a symbol"),
-    (b"Rule {x S -> A", "1:15: expected '}'"),
+    (b"Rule {start S -> NP", "1:20: expected '}'"),
     (b"Rule {a {b} S -> A", "1:9: expected '}'"),
     (b"Rule S -> A )", "1:13: expected a clause"),
     (b"Rule S -> A : (", "1:15: expected a clause"),
@@ -50,7 +49,6 @@ const GRAMMARS: [(&[u8], &str); 36] = [
     (b"Rule S -> A {B / C}", "1:13: not built yet"),
     (b"Rule S -> A {{<S f> = x}}", "1:13: not built yet"),
     (b"Rule S -> A : {", "1:15: not built yet"),
-    (b"Rule S -> NP VP <S f> = x", "1:17: not built yet"),
     (b"Let A be <x> = y", "1:1: not built yet"),
     (b"Rule S -> A define", "1:13: not built yet"),
     (b"Rule S -> A .\nParameter", "2:1: not built yet"),
@@ -68,42 +66,64 @@ const GRAMMARS: [(&[u8], &str); 36] = [
     ),
 ];
 
-/// Grammars with path equations, and what they are read as once equations are built.
-const WITH_EQUATIONS: [(&str, &str); 9] = [
+/// Grammars with path equations, and what they are read as.
+const EQUATIONS: [(&[u8], &str); 13] = [
     (
-        "Rule S -> NP VP <NP agr> = <VP agr> <S subj> = <NP> <S f> = x",
+        b"Rule S -> NP VP <NP agr> = <VP agr> <S subj> = <NP> <S f> = x",
         "1 S:S -> NP:NP VP:VP <NP agr> = <VP agr> <S subj> = <NP> <S f> = x|start S",
     ),
     (
-        "Rule S -> A_1: <A_1 is rule> = Let . Rule A ->",
+        b"Rule S -> N_1 N_2 <S x> = <N_1 f> <S y> = <N_2 f>",
+        "1 S:S -> N_1:N N_2:N <S x> = <N_1 f> <S y> = <N_2 f>|start S",
+    ),
+    (
+        b"Rule S -> A_1: <A_1 is rule> = Let . Rule A ->",
         "1 S:S -> A_1:A <A_1 is rule> = Let|1 A:A ->|start S",
     ),
-    ("Rule S -> A <B f> = x", "1:14: not a constituent"),
-    ("Rule Rule_1 -> A <Rule f> = x", "1:19: not a constituent"),
+    (b"Rule S -> A <B f> = x", "1:14: not a constituent"),
+    (b"Rule S -> A <S f> = <B>", "1:22: not a constituent"),
+    (b"Rule Rule_1 -> A <Rule f> = x", "1:19: not a constituent"),
+    (b"Rule S -> A <> = x", "1:14: expected a symbol"),
+    (b"Rule S -> A : <S f", "1:19: expected '>'"),
+    (b"Rule S -> A <S f> x", "1:19: expected '='"),
     (
-        "Rule S -> NP VP <NP agr> =",
+        b"Rule S -> NP VP <NP agr> =",
         "1:27: expected a path or an atom",
     ),
     (
-        "Rule S -> A <S a a a a a a a a a a a a a a a a a a a a a a a a a a a a a a a a a> = x",
+        b"Rule S -> A <S a a a a a a a a a a a a a a a a a a a a a a a a a a a a a a a a> = x",
+        "1 S:S -> A:A <S a a a a a a a a a a a a a a a a a a a a a a a a a a a a a a a a> = x|start S",
+    ),
+    (
+        b"Rule S -> A <S a a a a a a a a a a a a a a a a a a a a a a a a a a a a a a a a a> = x",
         "1:80: path too long",
     ),
-    ("Rule S -> A <S f = x", "1:18: expected '>'"),
-    ("Rule S -> A <S f> x", "1:19: expected '='"),
-    ("Rule S -> A <S f> = x {<S g> = y}", "1:23: not built yet"),
+    (b"Rule S -> A <S f> = x {<S g> = y}", "1:23: not built yet"),
 ];
 
-/// Features, and what they are read as once equations are built.
-const FEATURES: [(&str, &str); 6] = [
+/// Features, and what they are read as.
+const FEATURES: [(&str, &str); 12] = [
     ("; none", ""),
     (
         "<agr num> = sg\n<rule> = <subj head>",
         " <agr num> = sg <rule> = <subj head>",
     ),
-    ("<f> = x Sg3", "1:9: not built yet"),
+    ("<f> = x\n <>", "2:3: expected an attribute"),
+    ("<f = x", "1:4: expected '>'"),
+    ("<f> x", "1:5: expected '='"),
+    ("<x> =", "1:6: expected a path or an atom"),
     ("<f> = {", "1:7: expected a path or an atom"),
     ("<f> = x Rule", "1:9: expected an equation or a name"),
-    ("<f> = x\n <>", "2:3: expected an attribute"),
+    (
+        "<a a a a a a a a a a a a a a a a a a a a a a a a a a a a a a a a> = x",
+        " <a a a a a a a a a a a a a a a a a a a a a a a a a a a a a a a a> = x",
+    ),
+    (
+        "<a a a a a a a a a a a a a a a a a a a a a a a a a a a a a a a a a> = x",
+        "1:66: path too long",
+    ),
+    ("<f> = x Sg3", "1:9: not built yet"),
+    ("{<f> = x}", "1:1: not built yet"),
 ];
 
 /// The text of a number, where the table has one.
@@ -189,64 +209,36 @@ fn shown_grammar(alloc: Global, symbols: &Symbols, grammar: &Grammar) -> Result<
     Ok(shown)
 }
 
-/// What was read, or why nothing was.
-fn shown_result(
-    alloc: Global,
-    symbols: &Symbols,
-    read: Result<Grammar, Fault<GrammarCause>>,
-) -> Result<String, Fail> {
-    match read {
-        Ok(grammar) => shown_grammar(alloc, symbols, &grammar),
+/// What the bytes of a grammar are read as.
+fn shown<A: Abort>(rt: &A, alloc: Global, bytes: &[u8]) -> Result<String, Fail> {
+    let mut symbols = Symbols::new(alloc)?;
+    assert!(rt; symbols.len() < 100 && bytes.len() < 200);
+    match read_grammar(alloc, &mut symbols, bytes) {
+        Ok(grammar) => shown_grammar(alloc, &symbols, &grammar),
         Err(Fault::Refused(cause)) => Ok(format!(in alloc; "{cause}")?),
         Err(Fault::Memory) => Ok(format!(in alloc; "no memory")?),
     }
 }
 
-/// What the bytes of a grammar are read as.
-fn shown<A: Abort>(rt: &A, alloc: Global, bytes: &[u8]) -> Result<String, Fail> {
-    let mut symbols = Symbols::new(alloc)?;
-    assert!(rt; symbols.len() < 100 && bytes.len() < 200);
-    let read = read_grammar(alloc, &mut symbols, bytes);
-    shown_result(alloc, &symbols, read)
-}
-
-/// What a grammar with equations is read as.
-fn shown_text<A: Abort>(rt: &A, alloc: Global, text: &str) -> Result<String, Fail> {
-    let mut symbols = Symbols::new(alloc)?;
-    assert!(rt; symbols.len() < 100 && text.len() < 200);
-    let read = read_text(alloc, &mut symbols, text, true);
-    shown_result(alloc, &symbols, read)
-}
-
-/// The features that a text stands for, where equations are built, or today.
+/// The features that a text stands for.
 fn features_of(
     alloc: Global,
     symbols: &mut Symbols,
     text: &str,
-    built: bool,
 ) -> Result<Vec<Element>, Fault<GrammarCause>>
     requires { length symbols.old + length text.now < 2 ^ 32 - 1 }
 {
     let Ok(tokens) = tokens(alloc, text, 0, text.len(), 1, 1) else {
         return Err(Fault::Memory);
     };
-    if built {
-        elements(alloc, symbols, text, &tokens, true)
-    } else {
-        read_elements(alloc, symbols, text, &tokens)
-    }
+    read_elements(alloc, symbols, text, &tokens)
 }
 
 /// What features are read as.
-fn shown_features<A: Abort>(
-    rt: &A,
-    alloc: Global,
-    text: &str,
-    built: bool,
-) -> Result<String, Fail> {
+fn shown_features<A: Abort>(rt: &A, alloc: Global, text: &str) -> Result<String, Fail> {
     let mut symbols = Symbols::new(alloc)?;
     assert!(rt; symbols.len() < 100 && text.len() < 200);
-    match features_of(alloc, &mut symbols, text, built) {
+    match features_of(alloc, &mut symbols, text) {
         Ok(elements) => shown_elements(alloc, &symbols, &elements),
         Err(Fault::Refused(cause)) => Ok(format!(in alloc; "{cause}")?),
         Err(Fault::Memory) => Ok(format!(in alloc; "no memory")?),
@@ -259,8 +251,8 @@ fn grammars_are_read_or_refused(rt: HostRuntime) -> Result<(), Fail> {
     for (bytes, wanted) in GRAMMARS {
         assert_eq!(rt; shown(&rt, alloc, bytes)?.as_str(), wanted);
     }
-    for (text, wanted) in WITH_EQUATIONS {
-        assert_eq!(rt; shown_text(&rt, alloc, text)?.as_str(), wanted);
+    for (bytes, wanted) in EQUATIONS {
+        assert_eq!(rt; shown(&rt, alloc, bytes)?.as_str(), wanted);
     }
     Ok(())
 }
@@ -269,12 +261,7 @@ fn grammars_are_read_or_refused(rt: HostRuntime) -> Result<(), Fail> {
 fn features_are_read_or_refused(rt: HostRuntime) -> Result<(), Fail> {
     let alloc = rt.alloc();
     for (text, wanted) in FEATURES {
-        assert_eq!(rt; shown_features(&rt, alloc, text, true)?.as_str(), wanted);
+        assert_eq!(rt; shown_features(&rt, alloc, text)?.as_str(), wanted);
     }
-    assert_eq!(rt; shown_features(&rt, alloc, "; none", false)?.as_str(), "");
-    assert_eq!(rt;
-        shown_features(&rt, alloc, " <f> = x", false)?.as_str(),
-        "1:2: not built yet"
-    );
     Ok(())
 }

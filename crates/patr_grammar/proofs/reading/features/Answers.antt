@@ -1,10 +1,10 @@
-use Rattle.std.proofs.Common.{Err, sym, subst}
+use Rattle.std.proofs.Common.{Err, subst}
 use Rattle.patr_model.specs.Tokens.{after, start_place}
+use Rattle.patr_model.specs.Built.{stage}
+use Rattle.patr_model.specs.Productions.{elements}
 use Rattle.patr_text.specs.declared.fault.Fault.{Fault}
-use Rattle.patr_text.specs.declared.fault.Fault.TheVariants.{Refused}
-use Rattle.patr_grammar.specs.declared.grammar.GrammarCause.{GrammarCause}
 use Rattle.patr_grammar.specs.declared.reader.Refusal.{Refusal}
-use Rattle.patr_grammar.specs.Views.{by_id, Gives, features_view, features_by, AnswersFeatures}
+use Rattle.patr_grammar.specs.Views.{by_id, Gives, features_view}
 use Rattle.patr_grammar.proofs.FeatureMeanings.{features_refused}
 use Rattle.patr_grammar.proofs.reading.features.Goals as goal
 
@@ -13,9 +13,6 @@ returns-in-Err-Refused c =
     let end = after start_place c.args.text.now in
     let ls = c.args.lexemes.now in
     let rest = c.elements.new.self.rest.now in
-    let read = features_by by_id c.args.equations ls in
+    let read = elements by_id stage ls in
     let stops = subst (λ (f : Fault Refusal). Gives features_view (Err f) rest read) c.in-Err-Refused.field-0-is c.in-Err-Refused.ensures.gives in
-    record {
-      answers = subst (λ (cause : GrammarCause). AnswersFeatures end (Err (Refused cause)) read) (sym c.cause_at.ensures)
-          (features_refused end c.args.equations c.in-Err-Refused.refusal c.place_of-place.result ls rest stops c.place_of-place.ensures);
-    }
+    record { answers = rw c.cause_at.ensures (features_refused end c.in-Err-Refused.refusal c.place_of-place.result ls rest stops c.place_of-place.ensures) }

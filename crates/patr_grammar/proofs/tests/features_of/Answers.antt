@@ -13,14 +13,8 @@ spelled text ts items e cut order = subst (λ (ts : List Token). All (IsSpelled 
 pub tokens-requires-clause-start : goal.tokens-requires-clause-start
 tokens-requires-clause-start c = IsCharBoundary-start c.args.text.now c.utf8.text
 
-pub elements-requires-clause-spelled : goal.elements-requires-clause-spelled
-elements-requires-clause-spelled c = spelled c.args.text.now c.deref.result.now c.in-Ok.tokens.items c.deref.ensures.value c.in-Ok.ensures.cut c.in-Ok.ensures.order
-
-pub elements-requires-clause-room : goal.elements-requires-clause-room
-elements-requires-clause-room c = omega (arith, c.requires, bytes_within_text c.args.text.now c.deref.result.now c.in-Ok.tokens.items c.deref.ensures.value c.in-Ok.ensures.order)
-
 pub read_elements-requires-clause-spelled : goal.read_elements-requires-clause-spelled
-read_elements-requires-clause-spelled c = spelled c.args.text.now c.deref-else-built.result.now c.in-Ok.tokens.items c.deref-else-built.ensures.value c.in-Ok.ensures.cut c.in-Ok.ensures.order
+read_elements-requires-clause-spelled c = spelled c.args.text.now c.deref.result.now c.in-Ok.tokens.items c.deref.ensures.value c.in-Ok.ensures.cut c.in-Ok.ensures.order
 
 pub read_elements-requires-clause-room : goal.read_elements-requires-clause-room
-read_elements-requires-clause-room c = omega (arith, c.requires, bytes_within_text c.args.text.now c.deref-else-built.result.now c.in-Ok.tokens.items c.deref-else-built.ensures.value c.in-Ok.ensures.order)
+read_elements-requires-clause-room c = omega (arith, c.requires, bytes_within_text c.args.text.now c.deref.result.now c.in-Ok.tokens.items c.deref.ensures.value c.in-Ok.ensures.order)

@@ -1,13 +1,14 @@
 use Rattle.std.proofs.Common.{◌≡◌, ℕ, ◌+◌, ◌≤◌, length, map, []}
 use Rattle.patr_model.specs.Productions.{clauses}
-use Rattle.patr_grammar.specs.Views.{by_id, stage_of, rule_view}
+use Rattle.patr_model.specs.Built.{stage}
+use Rattle.patr_grammar.specs.Views.{by_id, rule_view}
 use Rattle.patr_grammar.proofs.Loops.{clauses_from}
 use Rattle.patr_grammar.proofs.reader.Reader.clauses.Given as goal
 
 -- with room for as many more as there are lexemes
 abbrev pub invariant-loop-self : goal.invariant-loop-self
 invariant-loop-self l = record {
-  read : (n : ℕ) × (length l.self.rest.now ≤ n) × (clauses_from l.equations (map rule_view l.rules.items) n l.self.rest.now ≡ clauses by_id (stage_of l.equations) (length l.fn.self.rest.now) [] l.fn.self.rest.now);
+  read : (n : ℕ) × (length l.self.rest.now ≤ n) × (clauses_from (map rule_view l.rules.items) n l.self.rest.now ≡ clauses by_id stage (length l.fn.self.rest.now) [] l.fn.self.rest.now);
   few : length l.rules.items + length l.self.rest.now ≤ length l.fn.self.rest.now;
 }
 

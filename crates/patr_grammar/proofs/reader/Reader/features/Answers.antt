@@ -4,7 +4,7 @@ use Rattle.std.proofs.lemmas.List.{map_push}
 use Rattle.patr_model.specs.Productions.{begins_feature}
 use Rattle.patr_grammar.specs.Views.{by_id, feature_item}
 use Rattle.patr_grammar.proofs.Loops.{many_more, many_ends}
-use Rattle.patr_grammar.proofs.Written.{built_feature, feature_list, features_fail}
+use Rattle.patr_grammar.proofs.Written.{one_feature, feature_list, features_fail}
 use Rattle.patr_grammar.proofs.reader.Reader.features.Goals as goal
 
 pub returns-in_err-feature : goal.returns-in_err-feature
@@ -21,11 +21,11 @@ loop-self-preserved c =
       i.0 - 1,
       omega (arith, c.in_ok-feature.ensures.shorter, i.1),
       rw (c.in_ok-push.ensures.items, map_push feature_item c.loop-self.features.items c.in_ok-feature.feature)
-          (many_more (begins_feature by_id) built_feature (map feature_item c.loop-self.features.items) i.0 c.loop-self.self.rest.now c.feature.new.self.rest.now (feature_item c.in_ok-feature.feature) (feature_list c.args.self.now.rest.now)
+          (many_more (begins_feature by_id) one_feature (map feature_item c.loop-self.features.items) i.0 c.loop-self.self.rest.now c.feature.new.self.rest.now (feature_item c.in_ok-feature.feature) (feature_list c.args.self.now.rest.now)
           refl (sym c.loop-self-test.ensures) i.1 i.2 c.in_ok-feature.ensures.gives),
     )
 
 pub returns : goal.returns
 returns c =
     let i = c.loop-self.invariant in
-    record { gives = many_ends (begins_feature by_id) built_feature (map feature_item c.loop-self.features.items) i.0 c.loop-self.self.rest.now (feature_list c.args.self.now.rest.now) (sym c.loop-self-test.ensures) i.2 }
+    record { gives = many_ends (begins_feature by_id) one_feature (map feature_item c.loop-self.features.items) i.0 c.loop-self.self.rest.now (feature_list c.args.self.now.rest.now) (sym c.loop-self-test.ensures) i.2 }

@@ -6,7 +6,7 @@ use Rattle.patr_grammar.proofs.reader.Reader.right_side.Given as goal
 -- with room for as many more as there are lexemes
 abbrev pub invariant-loop-self : goal.invariant-loop-self
 invariant-loop-self l = record {
-  read : (n : ℕ) × (length l.self.rest.now ≤ n) × (so_far (map item_view l.right.items) n (left_over l.self.left l.self.rest.now) ≡ all_items l.fn.self.rest.now);
+  read : (n : ℕ) × (length l.self.rest.now ≤ n) × (so_far (map item_view l.right.items) n (left_over l.left l.self.rest.now) ≡ all_items l.fn.self.rest.now);
   shorter : length l.self.rest.now ≤ length l.fn.self.rest.now;
 }
 

@@ -9,7 +9,7 @@ use Rattle.patr_grammar.proofs.reader.Reader.rule_items.Given as goal
 -- with room for as many more as there are lexemes
 abbrev pub invariant-loop-self : goal.invariant-loop-self
 invariant-loop-self l =
-    let read = rule_item l.built (head_seen l.head) in
+    let read = rule_item (head_seen l.head) in
     record {
       read : (n : ℕ) × (length l.self.rest.now ≤ n) × (many_from (begins_ruleitem by_id) read (map equation_item l.equations.items) n l.self.rest.now ≡ star (begins_ruleitem by_id) read l.fn.self.rest.now);
       shorter : length l.self.rest.now ≤ length l.fn.self.rest.now;

@@ -2,7 +2,7 @@ use Rattle.std.proofs.Common.{sym}
 use Rattle.std.proofs.lemmas.Result.{err_from_is_err_and}
 use Rattle.patr_grammar.proofs.Cells.{some_left, none_left}
 use Rattle.patr_grammar.proofs.Written.{feature_items, elements_fail, elements_left, elements_end}
-use Rattle.patr_grammar.proofs.reader.Reader.built_elements.Goals as goal
+use Rattle.patr_grammar.proofs.reader.Reader.elements.Goals as goal
 
 pub returns-in_err-features : goal.returns-in_err-features
 returns-in_err-features c =
