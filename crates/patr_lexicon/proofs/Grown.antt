@@ -1,14 +1,15 @@
 -- Entries that were read stay what was read while the table grows.
-use Rattle.std.proofs.Common.{ℕ, List, map}
+use Rattle.std.proofs.Common.{◌≡◌, ℕ, List, map, sym, subst}
 use Rattle.patr_model.specs.LexiconText.{EntryOf, EntryText}
 use Rattle.patr_model.specs.Productions.{FeatureText, Equates, Names}
 use Rattle.patr_model.specs.Agreeing.{SameFeatureText, SameEntryText}
-use Rattle.patr_text.specs.Texts.{Extends}
+use Rattle.patr_model.specs.Renaming.{Both, SameRow}
+use Rattle.patr_text.specs.Texts.{with_text, Extends}
 use Rattle.patr_text.specs.declared.symbols.Id.{Id}
-use Rattle.patr_grammar.specs.Reading.{IsText}
-use Rattle.patr_grammar.proofs.Tables.{each_still, text_still}
+use Rattle.patr_grammar.specs.Reading.{IsText, features_seen}
+use Rattle.patr_grammar.proofs.Tables.{extends_with, extends_trans, each_still, text_still}
 use Rattle.patr_grammar.proofs.Grown.{both_still, equation_still, row_still}
-use Rattle.patr_lexicon.specs.Reading.{AreEntriesOf}
+use Rattle.patr_lexicon.specs.Reading.{IsEntryOf, AreEntriesOf}
 use Rattle.patr_lexicon.specs.Seen.{entry_seen}
 use Rattle.patr_lexicon.specs.declared.lexicon.Entry as code
 
@@ -34,3 +35,21 @@ pub entries_still : (old new : List (List ℕ)) → Extends old new → (es : Li
 entries_still old new e es ts h =
     let f : (i : Id) (t : List ℕ) → IsText old i t → IsText new i t = λ i t is. text_still old new e i.0 t is in
     each_still (SameEntryText (IsText old)) (SameEntryText (IsText new)) (entry_still (IsText old) (IsText new) f) (map entry_seen es) ts h
+
+-- ---- the texts of one entry
+
+-- a text, another, and then more
+pub held_text : (old new later : List (List ℕ)) (t : List ℕ) → new ≡ with_text old t → Extends new later → Extends old later
+held_text old new later t is more = extends_trans old new later (subst (Extends old) (sym is) (extends_with old t)) more
+
+-- an entry whose texts got their numbers one after another, in tables of which each extends the one before
+pub entry_held : (e : code.Entry) (t : EntryText) (words categories glosses new : List (List ℕ)) → Extends words new → Extends categories new → Extends glosses new
+    → e.line ≡ t.line → IsText words e.word t.word → IsText categories e.category t.category → Both (IsText glosses) e.gloss t.gloss → SameRow (SameFeatureText (IsText new)) (features_seen e.features.items) t.features
+    → IsEntryOf new e t
+entry_held e t words categories glosses new a b c line word category gloss features = record {
+  line = line;
+  word = text_still words new a e.word.0 t.word word;
+  category = text_still categories new b e.category.0 t.category category;
+  gloss = both_still (IsText glosses) (IsText new) (λ i u is. text_still glosses new c i.0 u is) e.gloss t.gloss gloss;
+  features = features;
+}

@@ -1,4 +1,8 @@
+pub mod Cuts
 pub mod Grown
+pub mod Places
+pub mod Scans
+pub mod SameFeatures
 pub mod Lines
 pub mod Listed
 pub mod Records

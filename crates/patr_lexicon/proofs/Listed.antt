@@ -1,18 +1,10 @@
 -- The numbers of entries by their words, entry by entry.
-use Rattle.std.proofs.Common.{◌≡◌, ℕ, suc, ◌+◌, ◌<◌, Bool, true, false, cond, nat_eq, List, [], ◌∷◌, ◌++◌, length, take, get_or, refl, sym, ap, ◌∙◌, arith, append-nil}
+use Rattle.std.proofs.Common.{◌≡◌, ℕ, ◌+◌, ◌<◌, Bool, true, false, cond, nat_eq, List, [], ◌∷◌, ◌++◌, length, take, get_or, refl, sym, ap, ◌∙◌, arith, append-nil}
 use Rattle.std.proofs.lemmas.List.{length-take-le, take_more}
 use Rattle.patr_model.specs.Numbered.{places}
+use Rattle.patr_model.proofs.Selected.{places_append}
 use Rattle.patr_lexicon.specs.declared.lexicon.Entry.{Entry}
 use Rattle.patr_lexicon.specs.Entries.{is_of}
-
-pub places_append : {X : Type 0} (test : X → Bool) (i : ℕ) (xs ys : List X) → places test i (xs ++ ys) ≡ places test i xs ++ places test (i + length xs) ys
-places_append test i [] ys = ap (λ n. places test n ys) (omega arith)
-places_append test i (x ∷ xs) ys = go (test x) (places_append test (suc i) xs ys ∙ ap (λ n. places test (suc i) xs ++ places test n ys) (omega arith))
-  where
-    go : (b : Bool) → places test (suc i) (xs ++ ys) ≡ places test (suc i) xs ++ places test (i + length (x ∷ xs)) ys
-        → cond b (i ∷ places test (suc i) (xs ++ ys)) (places test (suc i) (xs ++ ys)) ≡ cond b (i ∷ places test (suc i) xs) (places test (suc i) xs) ++ places test (i + length (x ∷ xs)) ys
-    go true e = ap (λ l. i ∷ l) e
-    go false e = e
 
 -- with one more member
 pub places_more : {X : Type 0} (test : X → Bool) (xs : List X) (n : ℕ) (d : X) → n < length xs

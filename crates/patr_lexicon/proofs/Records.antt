@@ -1,19 +1,17 @@
 -- A record while it is read: what it becomes does not depend on how far it is read.
-use Rattle.std.proofs.Common.{◌≡◌, ℕ, Bool, false, cond, List, [], ◌∷◌, ◌++◌, flat_map, Option, Some, None, Result, Ok, refl, sym, ap, ◌∙◌, append-nil, length, arith}
-use Rattle.std.specs.List.{filter}
+use Rattle.std.proofs.Common.{◌≡◌, ℕ, Bool, false, cond, List, [], ◌∷◌, ◌++◌, flat_map, Option, Some, None, Result, Ok, refl, sym, ap, ◌∙◌, append-nil, append_assoc, length, arith}
 use Rattle.std.proofs.lemmas.Grind.{flat_map-append}
 use Rattle.patr_model.specs.declared.field.Marker.{Marker}
 use Rattle.patr_model.specs.declared.field.Marker.TheVariants as marker
 use Rattle.patr_model.specs.Session.{without_empty, words_of}
 use Rattle.patr_lexicon.specs.Split.{between_tabs}
-use Rattle.patr_model.specs.Tokens.{Place, Token}
 use Rattle.patr_model.specs.Grammar.{Row}
 use Rattle.patr_model.specs.Productions.{FeatureText}
-use Rattle.patr_model.specs.Stages.{plain_rules}
-use Rattle.patr_model.specs.LexiconLines.{Piece, Field, or_later}
+use Rattle.patr_model.specs.Built.{stage}
+use Rattle.patr_model.specs.LexiconLines.{Piece, Field}
 use Rattle.patr_model.specs.LexiconText as lexicon
-use Rattle.patr_model.specs.LexiconText.{EntryFault, EntryText, ◌>>=◌, trimmed, spaced, field_text, text_of, gloss_of, is_category, is_features, is_gloss, or_field, last_field, entry, piece_tokens}
-use Rattle.patr_lexicon.specs.Records.{Words, Empty, One, Several, counted, plus, words_in, text_in, tokens_in, first_place, Open, opened, with_field, with_pieces, words_or, text_or, with_fields, one_word, one_category, none_later, closed}
+use Rattle.patr_model.specs.LexiconText.{EntryFault, EntryText, ◌>>=◌, trimmed, spaced, field_text, text_of, gloss_of, is_category, is_features, is_gloss, or_field, last_field, entry, features_of}
+use Rattle.patr_lexicon.specs.Records.{Words, Empty, One, Several, counted, plus, words_in, text_in, feature_pieces, Open, opened, with_field, with_pieces, words_or, text_or, with_fields, one_word, one_category, closed}
 use Rattle.patr_lexicon.proofs.Spaced.{without_append, words_of_text, spaced_none, spaced_twice}
 
 -- ---- words, texts and places
@@ -39,24 +37,12 @@ counted_two (x ∷ []) (y ∷ []) = refl
 counted_two (x ∷ []) (y ∷ z ∷ ys) = refl
 counted_two (x ∷ w ∷ xs) ys = refl
 
-later_none : (p : Option Place) → or_later p None ≡ p
-later_none None = refl
-later_none (Some p) = refl
-
-later_twice : (p q r : Option Place) → or_later (or_later p q) r ≡ or_later p (or_later q r)
-later_twice None q r = refl
-later_twice (Some p) q r = refl
-
-first_two : (xs ys : List Token) → first_place (xs ++ ys) ≡ or_later (first_place xs) (first_place ys)
-first_two [] ys = refl
-first_two (x ∷ xs) ys = refl
-
 -- ---- pieces
 
 pub no_pieces : (o : Open) (m : Marker) → with_pieces o m [] ≡ o
 no_pieces o marker.Word = ap (λ w. record o { word = w }) (plus_none o.word)
 no_pieces o marker.Category = ap (λ w. record o { category = w }) (plus_none o.category)
-no_pieces o marker.Features = ap (λ p. record o { later = p }) (later_none o.later)
+no_pieces o marker.Features = ap (λ ps. record o { features = ps }) (append-nil o.features)
 no_pieces o marker.Gloss = ap (λ t. record o { gloss = t }) (spaced_none o.gloss)
 no_pieces o marker.Other = refl
 
@@ -70,16 +56,11 @@ more_text : (t : List ℕ) (p : Piece) (ps : List Piece) → spaced t (text_in (
 more_text t p ps =
     ap (λ x. spaced t (spaced x (text_in ps))) (sym (spaced_none (trimmed p.text))) ∙ sym (spaced_twice t (text_in (p ∷ [])) (text_in ps))
 
-more_tokens : (q : Option Place) (p : Piece) (ps : List Piece) → or_later q (first_place (tokens_in (p ∷ ps))) ≡ or_later (or_later q (first_place (tokens_in (p ∷ [])))) (first_place (tokens_in ps))
-more_tokens q p ps =
-    ap (or_later q) (first_two (piece_tokens p) (tokens_in ps) ∙ ap (λ l. or_later (first_place l) (first_place (tokens_in ps))) (sym (append-nil (piece_tokens p))))
-    ∙ sym (later_twice q (first_place (tokens_in (p ∷ []))) (first_place (tokens_in ps)))
-
 -- one piece, and then the others
 pub one_piece : (o : Open) (m : Marker) (p : Piece) (ps : List Piece) → with_pieces o m (p ∷ ps) ≡ with_pieces (with_pieces o m (p ∷ [])) m ps
 one_piece o marker.Word p ps = ap (λ w. record o { word = w }) (more_words o.word p ps)
 one_piece o marker.Category p ps = ap (λ w. record o { category = w }) (more_words o.category p ps)
-one_piece o marker.Features p ps = ap (λ q. record o { later = q }) (more_tokens o.later p ps)
+one_piece o marker.Features p ps = ap (λ qs. record o { features = qs }) (sym (append_assoc o.features (p ∷ []) ps))
 one_piece o marker.Gloss p ps = ap (λ t. record o { gloss = t }) (more_text o.gloss p ps)
 one_piece o marker.Other p ps = refl
 
@@ -100,18 +81,15 @@ last_text : (t : List ℕ) (n : ℕ) (ps : List Piece) (g : Option Field) → te
 last_text t n ps None = refl
 last_text t n ps (Some g) = refl
 
-with_rest : Open → Words → List ℕ → Option Place → Open
-with_rest o ws t q = record { line = o.line; word = o.word; category = ws; gloss = t; later = q }
-
-abbrev tokens_of_fields : List Field → List Token
-tokens_of_fields fs = tokens_in (flat_map (λ (f : Field). f.pieces) (filter (λ (f : Field). is_features f.marker) fs))
+with_rest : Open → Words → List ℕ → List Piece → Open
+with_rest o ws t ps = record { line = o.line; word = o.word; category = ws; gloss = t; features = ps }
 
 module _ (o : Open) (n : ℕ) (ps : List Piece) (os : List Field) where
   pub category_begins : with_fields o (a_field marker.Category n ps ∷ os) ≡ with_fields (with_pieces (with_field o marker.Category) marker.Category ps) os
   unfolding with_rest
   category_begins =
       let f = a_field marker.Category n ps in
-      let q = or_later o.later (first_place (tokens_of_fields os)) in
+      let q = o.features ++ feature_pieces os in
       ap (λ ws. with_rest o ws (text_or o.gloss (last_field is_gloss (f ∷ os))) q) (last_words o.category n ps (last_field is_category os))
       ∙ ap (λ g. with_rest o (words_or (counted (words_in ps)) (last_field is_category os)) (text_or o.gloss g) q) (other_field is_gloss f (last_field is_gloss os) refl)
 
@@ -119,7 +97,7 @@ module _ (o : Open) (n : ℕ) (ps : List Piece) (os : List Field) where
   unfolding with_rest
   gloss_begins =
       let f = a_field marker.Gloss n ps in
-      let q = or_later o.later (first_place (tokens_of_fields os)) in
+      let q = o.features ++ feature_pieces os in
       ap (λ t. with_rest o (words_or o.category (last_field is_category (f ∷ os))) t q) (last_text o.gloss n ps (last_field is_gloss os))
       ∙ ap (λ g. with_rest o (words_or o.category g) (text_or (text_in ps) (last_field is_gloss os)) q) (other_field is_category f (last_field is_category os) refl)
 
@@ -127,12 +105,10 @@ module _ (o : Open) (n : ℕ) (ps : List Piece) (os : List Field) where
   unfolding with_rest
   features_begin =
       let f = a_field marker.Features n ps in
-      let rest = flat_map (λ (f : Field). f.pieces) (filter (λ (f : Field). is_features f.marker) os) in
-      let tokens : first_place (tokens_in (ps ++ rest)) ≡ or_later (first_place (tokens_in ps)) (first_place (tokens_in rest)) = ap first_place (flat_map-append piece_tokens ps rest) ∙ first_two (tokens_in ps) (tokens_in rest) in
-      let q : or_later o.later (first_place (tokens_in (ps ++ rest))) ≡ or_later (or_later o.later (first_place (tokens_in ps))) (first_place (tokens_in rest)) = ap (or_later o.later) tokens ∙ sym (later_twice o.later (first_place (tokens_in ps)) (first_place (tokens_in rest))) in
-      ap (λ q. with_rest o (words_or o.category (last_field is_category (f ∷ os))) (text_or o.gloss (last_field is_gloss (f ∷ os))) q) q
-      ∙ ap (λ g. with_rest o (words_or o.category g) (text_or o.gloss (last_field is_gloss (f ∷ os))) (or_later (or_later o.later (first_place (tokens_in ps))) (first_place (tokens_in rest)))) (other_field is_category f (last_field is_category os) refl)
-      ∙ ap (λ g. with_rest o (words_or o.category (last_field is_category os)) (text_or o.gloss g) (or_later (or_later o.later (first_place (tokens_in ps))) (first_place (tokens_in rest)))) (other_field is_gloss f (last_field is_gloss os) refl)
+      let q = (o.features ++ ps) ++ feature_pieces os in
+      ap (λ q. with_rest o (words_or o.category (last_field is_category (f ∷ os))) (text_or o.gloss (last_field is_gloss (f ∷ os))) q) (sym (append_assoc o.features ps (feature_pieces os)))
+      ∙ ap (λ g. with_rest o (words_or o.category g) (text_or o.gloss (last_field is_gloss (f ∷ os))) q) (other_field is_category f (last_field is_category os) refl)
+      ∙ ap (λ g. with_rest o (words_or o.category (last_field is_category os)) (text_or o.gloss g) q) (other_field is_gloss f (last_field is_gloss os) refl)
 
 -- ---- entries
 
@@ -154,25 +130,20 @@ same_gloss : (g : Option Field) → text_of g ≡ text_or [] g
 same_gloss None = refl
 same_gloss (Some f) = refl
 
-same_features : (ts : List Token) → lexicon.none_yet ts ≡ none_later (first_place ts)
-same_features [] = refl
-same_features (t ∷ ts) = refl
-
 entry_by : ℕ → Result (List ℕ) EntryFault → Result (List ℕ) EntryFault → Result (Row (FeatureText (List ℕ))) EntryFault → List ℕ → Result EntryText EntryFault
 entry_by n w c f g = w >>= λ word. c >>= λ category. f >>= λ features. Ok (record { line = n; word = word; category = category; gloss = gloss_of g; features = features })
 
 -- the entry of a record is that of the record as it is read
 pub entry_is : (n : ℕ) (ps : List Piece) (os : List Field)
-    → entry plain_rules (record { word = a_field marker.Word n ps; others = os }) ≡ closed (with_fields (with_pieces (opened n) marker.Word ps) os)
+    → entry stage (record { word = a_field marker.Word n ps; others = os }) ≡ closed (with_fields (with_pieces (opened n) marker.Word ps) os)
 unfolding entry_by
 entry_is n ps os =
-    let ts = tokens_of_fields os in
+    let f = features_of stage (feature_pieces os) in
     let c = lexicon.one_category n (words_of (text_of (last_field is_category os))) in
     let g = last_field is_gloss os in
-    ap (λ w. entry_by n w c (lexicon.none_yet ts) (text_of g)) (ap (lexicon.one_word n) (words_of_text ps) ∙ same_word n (words_in ps))
-    ∙ ap (λ c. entry_by n (one_word n (counted (words_in ps))) c (lexicon.none_yet ts) (text_of g)) (category_of n (last_field is_category os))
-    ∙ ap (λ f. entry_by n (one_word n (counted (words_in ps))) (one_category n (words_or Empty (last_field is_category os))) f (text_of g)) (same_features ts)
-    ∙ ap (entry_by n (one_word n (counted (words_in ps))) (one_category n (words_or Empty (last_field is_category os))) (none_later (first_place ts))) (same_gloss g)
+    ap (λ w. entry_by n w c f (text_of g)) (ap (lexicon.one_word n) (words_of_text ps) ∙ same_word n (words_in ps))
+    ∙ ap (λ c. entry_by n (one_word n (counted (words_in ps))) c f (text_of g)) (category_of n (last_field is_category os))
+    ∙ ap (entry_by n (one_word n (counted (words_in ps))) (one_category n (words_or Empty (last_field is_category os))) f) (same_gloss g)
 
 -- ---- words one by one
 
@@ -195,4 +166,4 @@ words_and w xs x =
     ∙ ap (λ l. plus w (counted l)) (ap (λ l. flat_map between_tabs xs ++ l) (sym (append-nil (between_tabs x))) ∙ sym (flat_map-append between_tabs xs (x ∷ [])))
 
 pub no_fields : (o : Open) → with_fields o [] ≡ o
-no_fields o = ap (λ q. record o { later = q }) (later_none o.later)
+no_fields o = ap (λ ps. record o { features = ps }) (append-nil o.features)

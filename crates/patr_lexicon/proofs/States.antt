@@ -1,19 +1,19 @@
 -- Lines in front of what is left of a lexicon.
-use Rattle.std.proofs.Common.{◌≡◌, ℕ, List, [], ◌∷◌, Option, Some, Result, Ok, Err, ◌⊎◌, inl, inr, Bor, refl, ap, ◌∙◌}
+use Rattle.std.proofs.Common.{◌≡◌, ℕ, ◌+◌, ◌≤◌, List, [], ◌∷◌, ◌++◌, length, Result, Ok, Err, ◌⊎◌, inl, inr, Bor, refl, ap, ◌∙◌, arith}
 use Rattle.patr_model.specs.declared.field.Marker.{Marker}
 use Rattle.patr_model.specs.declared.field.Marker.TheVariants as marker
 use Rattle.patr_model.specs.LexiconLines.{Piece, Fields}
-use Rattle.patr_model.specs.LexiconText.{EntryText, EntryFault, NoWord, SeveralWords, NoCategory, BadFeatures, entries, read_fields}
+use Rattle.patr_model.specs.Grammar.{Row}
+use Rattle.patr_model.specs.Productions.{FeatureText}
+use Rattle.patr_model.specs.LexiconText.{EntryText, EntryFault, NoWord, SeveralWords, NoCategory, ◌>>=◌, gloss_of, features_of, entries, read_fields}
 use Rattle.patr_model.specs.Built.{stage}
-use Rattle.patr_lexicon.specs.Records.{Words, Empty, One, Several, Open, opened, with_field, with_pieces, with_fields, closed}
-use Rattle.patr_model.specs.Tokens.{Place}
-use Rattle.patr_model.specs.Parsing.{LaterForm}
+use Rattle.patr_lexicon.specs.Records.{Words, Empty, One, Several, Open, bytes_in, opened, with_field, with_pieces, with_fields, one_word, one_category, closed}
 use Rattle.patr_lexicon.specs.declared.words.Words as code_words
 use Rattle.patr_lexicon.specs.declared.words.Words.TheVariants as count
 use Rattle.patr_lexicon.specs.declared.state.State.{State}
 use Rattle.patr_lexicon.specs.declared.state.State.TheVariants.{Start, Skipped, Within}
 use Rattle.patr_lexicon.specs.Parts.{words_seen, record_seen}
-use Rattle.patr_lexicon.specs.States.{goes_on, ended_before, record_of, known_records, then_rest, from_record}
+use Rattle.patr_lexicon.specs.States.{goes_on, ended_before, record_of, known_records, then_rest, from_record, some_words, some_text, most_texts}
 use Rattle.patr_lexicon.proofs.Records.{no_pieces, one_piece, a_field, category_begins, gloss_begins, features_begin, no_fields, entry_is}
 
 -- a line of text
@@ -88,32 +88,45 @@ ends (Within m r) = end_within m (record_seen r)
 
 -- ---- records that end
 
-closed_by : Open → Words → Words → Option Place → Result EntryText EntryFault
-closed_by o w c q = closed (record { line = o.line; word = w; category = c; gloss = o.gloss; later = q })
+closed_by : Open → Words → Words → Result (Row (FeatureText (List ℕ))) EntryFault → Result EntryText EntryFault
+closed_by o w c f = one_word o.line w >>= λ word. one_category o.line c >>= λ category. f >>= λ features. Ok (record { line = o.line; word = word; category = category; gloss = gloss_of o.gloss; features = features })
 
 module _ (o : Open) where
+  abbrev read : Result (Row (FeatureText (List ℕ))) EntryFault
+  read = features_of stage o.features
+
   pub closed_empty : o.word ≡ Empty → closed o ≡ Err (NoWord o.line)
   unfolding closed_by
-  closed_empty none = ap (λ w. closed_by o w o.category o.later) none
+  closed_empty none = ap (λ w. closed_by o w o.category read) none
 
   pub closed_several : o.word ≡ Several → closed o ≡ Err (SeveralWords o.line)
   unfolding closed_by
-  closed_several several = ap (λ w. closed_by o w o.category o.later) several
+  closed_several several = ap (λ w. closed_by o w o.category read) several
 
-  none_fits : (w : List ℕ) (c : Words) (q : Option Place) → ((v : List ℕ) → c ≡ One v → ⊥) → closed_by o (One w) c q ≡ Err (NoCategory o.line)
+  none_fits : (w : List ℕ) (c : Words) → ((v : List ℕ) → c ≡ One v → ⊥) → closed_by o (One w) c read ≡ Err (NoCategory o.line)
   unfolding closed_by
-  none_fits w Empty q other = refl
-  none_fits w (One v) q other = absurd (other v refl)
-  none_fits w Several q other = refl
+  none_fits w Empty other = refl
+  none_fits w (One v) other = absurd (other v refl)
+  none_fits w Several other = refl
 
   pub closed_other : (w : List ℕ) → o.word ≡ One w → ((v : List ℕ) → o.category ≡ One v → ⊥) → closed o ≡ Err (NoCategory o.line)
   unfolding closed_by
-  closed_other w word other = ap (λ w. closed_by o w o.category o.later) word ∙ none_fits w o.category o.later other
+  closed_other w word other = ap (λ w. closed_by o w o.category read) word ∙ none_fits w o.category other
 
-  pub closed_later : (w v : List ℕ) (p : Place) → o.word ≡ One w → o.category ≡ One v → o.later ≡ Some p → closed o ≡ Err (BadFeatures LaterForm p)
-  unfolding closed_by
-  closed_later w v p word category later =
-      ap (λ w. closed_by o w o.category o.later) word ∙ ap (λ c. closed_by o (One w) c o.later) category ∙ ap (closed_by o (One w) (One v)) later
+  module _ (w v : List ℕ) (word : o.word ≡ One w) (category : o.category ≡ One v) where
+    closed_as : (f : Result (Row (FeatureText (List ℕ))) EntryFault) → read ≡ f → closed o ≡ closed_by o (One w) (One v) f
+    unfolding closed_by
+    closed_as f is = ap (λ w. closed_by o w o.category read) word ∙ ap (λ c. closed_by o (One w) c read) category ∙ ap (closed_by o (One w) (One v)) is
+
+    -- a record whose features stand for none
+    pub closed_bad : (f : EntryFault) → read ≡ Err f → closed o ≡ Err f
+    unfolding closed_by
+    closed_bad f is = closed_as (Err f) is
+
+    -- and one whose features are read
+    pub closed_good : (r : Row (FeatureText (List ℕ))) → read ≡ Ok r → closed o ≡ Ok (record { line = o.line; word = w; category = v; gloss = gloss_of o.gloss; features = r })
+    unfolding closed_by
+    closed_good r is = closed_as (Ok r) is
 
 seen_one : (c : code_words.Words) (v : List ℕ) → words_seen c ≡ One v → (x : Bor (List ℕ)) × (c ≡ count.One x)
 seen_one count.Empty v h = absurd cc
@@ -122,3 +135,33 @@ seen_one count.Several v h = absurd cc
 
 pub not_one : (c : code_words.Words) → ((x : Bor (List ℕ)) → c ≡ count.One x → ⊥) → (v : List ℕ) → words_seen c ≡ One v → ⊥
 not_one c other v h = other (seen_one c v h).0 (seen_one c v h).1
+
+-- ---- how many texts are still to be numbered
+
+one_of_words : (w : Words) → some_words w ≤ 1
+one_of_words Empty = omega arith
+one_of_words (One w) = omega arith
+one_of_words Several = omega arith
+
+one_text : (t : List ℕ) → some_text t ≤ 1
+one_text [] = omega arith
+one_text (b ∷ bs) = omega arith
+
+bytes_push : (ps : List Piece) (p : Piece) → bytes_in (ps ++ p ∷ []) ≡ bytes_in ps + length p.text
+bytes_push [] p = omega arith
+bytes_push (q ∷ ps) p = omega (arith, bytes_push ps p)
+
+-- a piece brings no more texts than it has bytes, or one
+pub most_with : (o : Open) (m : Marker) (p : Piece) (n : ℕ) → 1 ≤ n → length p.text ≤ n → most_texts (with_pieces o m (p ∷ [])) ≤ most_texts o + n
+most_with o marker.Word p n one few = omega arith
+most_with o marker.Category p n one few = omega (arith, one_of_words (with_pieces o marker.Category (p ∷ [])).category)
+most_with o marker.Gloss p n one few = omega (arith, one_text (with_pieces o marker.Gloss (p ∷ [])).gloss)
+most_with o marker.Features p n one few = omega (arith, bytes_push o.features p)
+most_with o marker.Other p n one few = omega arith
+
+pub most_begun : (o : Open) (m : Marker) → most_texts (with_field o m) ≤ most_texts o
+most_begun o marker.Word = omega arith
+most_begun o marker.Category = omega arith
+most_begun o marker.Gloss = omega arith
+most_begun o marker.Features = omega arith
+most_begun o marker.Other = omega arith

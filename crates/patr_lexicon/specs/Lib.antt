@@ -1,4 +1,6 @@
+pub mod Cut
 pub mod Entries
+pub mod Laid
 pub mod Parts
 pub mod Reading
 pub mod Records

@@ -1,8 +1,7 @@
 -- The lines and pieces of the code, and what they are in the definition of lexicons.
-use Rattle.std.specs.Prelude.{ℕ, ◌+◌, List, [], ◌∷◌, length, Option, Some, None, nat_eq}
+use Rattle.std.specs.Prelude.{◌≢◌, ℕ, ◌+◌, ◌<◌, List, [], ◌∷◌, length, get_or, map, Option, Some, None, nat_eq}
 use Rattle.std.specs.Str.{IsCharBoundary}
 use Rattle.std.specs.String.{string_bytes}
-use Rattle.std.specs.Option.{option_map}
 use denote.Ref.{Bor}
 use Rattle.patr_model.specs.declared.field.LineKind.{LineKind}
 use Rattle.patr_model.specs.declared.field.LineKind.TheVariants.{Begins}
@@ -18,10 +17,19 @@ use Rattle.patr_lexicon.specs.declared.record.Record as code_record
 use Rattle.patr_lexicon.specs.Reading.{place_at}
 use Rattle.patr_lexicon.specs.Records.{Words, Empty, One, Several, Open}
 
+-- no byte of these is an LF
+abbrev pub NoLf : List ℕ → Type 0
+NoLf bs = (i : ℕ) → i < length bs → get_or bs i 0 ≢ 10
+
 -- the lines of a rest that may be there
 abbrev pub rest_lines : Option (Bor (List ℕ)) → List (List ℕ)
 rest_lines None = []
 rest_lines (Some rest) = pieces (nat_eq 10) rest.now
+
+-- a rest, and the LF before it
+abbrev pub rest_text : Option (Bor (List ℕ)) → List ℕ
+rest_text None = []
+rest_text (Some rest) = 10 ∷ rest.now
 
 -- how many bytes a rest has, and the LF before it
 abbrev pub rest_len : Option (Bor (List ℕ)) → ℕ
@@ -45,6 +53,10 @@ place_seen p = place_at p.line p.column
 abbrev pub piece_seen : code_piece.Piece → Piece
 piece_seen p = record { place = place_at p.line p.column; text = p.text.now }
 
+-- pieces of the code
+abbrev pub pieces_seen : List code_piece.Piece → List Piece
+pieces_seen ps = map piece_seen ps
+
 -- words of the code, by their texts
 abbrev pub words_seen : code_words.Words → Words
 words_seen code_count.Empty = Empty
@@ -62,4 +74,4 @@ gloss_seen g = or_part (string_bytes g.joined) g.part.now
 
 -- a record as far as it is read
 abbrev pub record_seen : code_record.Record → Open
-record_seen r = record { line = r.line; word = words_seen r.word; category = words_seen r.category; gloss = gloss_seen r.gloss; later = option_map place_seen r.later }
+record_seen r = record { line = r.line; word = words_seen r.word; category = words_seen r.category; gloss = gloss_seen r.gloss; features = pieces_seen r.features.pieces.items }

@@ -1,15 +1,12 @@
 -- A record of a lexicon while it is read, and what it becomes with the pieces and fields behind.
-use Rattle.std.specs.Prelude.{ℕ, List, [], ◌∷◌, map, Option, Some, None, Result, Ok, Err}
+use Rattle.std.specs.Prelude.{ℕ, ◌+◌, List, [], ◌∷◌, ◌++◌, length, map, Option, Some, None, Result, Ok, Err}
 use Rattle.std.specs.List.{flat_map, filter}
 use Rattle.patr_model.specs.declared.field.Marker.{Marker}
 use Rattle.patr_model.specs.declared.field.Marker.TheVariants as marker
-use Rattle.patr_model.specs.Grammar.{Row, Done}
 use Rattle.patr_model.specs.Session.{words_of}
-use Rattle.patr_model.specs.Tokens.{Place, Token}
-use Rattle.patr_model.specs.Parsing.{LaterForm}
-use Rattle.patr_model.specs.Productions.{FeatureText}
-use Rattle.patr_model.specs.LexiconLines.{Piece, Field, or_later}
-use Rattle.patr_model.specs.LexiconText.{EntryText, EntryFault, NoWord, SeveralWords, NoCategory, BadFeatures, ◌>>=◌, trimmed, spaced, joined, field_text, is_features, is_gloss, is_category, last_field, gloss_of, piece_tokens}
+use Rattle.patr_model.specs.LexiconLines.{Piece, Field}
+use Rattle.patr_model.specs.LexiconText.{EntryText, EntryFault, NoWord, SeveralWords, NoCategory, ◌>>=◌, trimmed, spaced, joined, field_text, is_features, is_gloss, is_category, last_field, gloss_of, features_of}
+use Rattle.patr_model.specs.Built.{stage}
 
 -- how many words there are: none, this one, or several
 pub data Words : Type 0 where
@@ -39,26 +36,26 @@ words_in ps = flat_map (λ (p : Piece). words_of (trimmed p.text)) ps
 abbrev pub text_in : List Piece → List ℕ
 text_in ps = joined (map (λ (p : Piece). trimmed p.text) ps)
 
--- the tokens of pieces
-abbrev pub tokens_in : List Piece → List Token
-tokens_in ps = flat_map piece_tokens ps
+-- how many bytes pieces have
+abbrev pub bytes_in : List Piece → ℕ
+bytes_in [] = 0
+bytes_in (p ∷ ps) = length p.text + bytes_in ps
 
--- where the first token stands
-abbrev pub first_place : List Token → Option Place
-first_place [] = None
-first_place (t ∷ ts) = Some t.place
+-- the pieces of features of fields
+abbrev pub feature_pieces : List Field → List Piece
+feature_pieces fs = flat_map (λ (f : Field). f.pieces) (filter (λ (f : Field). is_features f.marker) fs)
 
--- a record as far as it is read: the line of its `\w`, its words, those of its last category, its last gloss, and where its first token of features stands
+-- a record as far as it is read: the line of its `\w`, its words, those of its last category, its last gloss, and the pieces of its features
 pub record Open : Type 0 where
   pub line : ℕ
   pub word : Words
   pub category : Words
   pub gloss : List ℕ
-  pub later : Option Place
+  pub features : List Piece
 
 -- the record that a `\w` on this line begins
 abbrev pub opened : ℕ → Open
-opened n = record { line = n; word = Empty; category = Empty; gloss = []; later = None }
+opened n = record { line = n; word = Empty; category = Empty; gloss = []; features = [] }
 
 -- a field of this marker begins in a record
 abbrev pub with_field : Open → Marker → Open
@@ -71,7 +68,7 @@ abbrev pub with_pieces : Open → Marker → List Piece → Open
 with_pieces o marker.Word ps = record o { word = plus o.word (counted (words_in ps)) }
 with_pieces o marker.Category ps = record o { category = plus o.category (counted (words_in ps)) }
 with_pieces o marker.Gloss ps = record o { gloss = spaced o.gloss (text_in ps) }
-with_pieces o marker.Features ps = record o { later = or_later o.later (first_place (tokens_in ps)) }
+with_pieces o marker.Features ps = record o { features = o.features ++ ps }
 with_pieces o marker.Other ps = o
 
 -- the words of a field, where there is one
@@ -91,7 +88,7 @@ with_fields o fs = record {
   word = o.word;
   category = words_or o.category (last_field is_category fs);
   gloss = text_or o.gloss (last_field is_gloss fs);
-  later = or_later o.later (first_place (tokens_in (flat_map (λ (f : Field). f.pieces) (filter (λ (f : Field). is_features f.marker) fs))));
+  features = o.features ++ feature_pieces fs;
 }
 
 -- exactly one word
@@ -105,15 +102,10 @@ abbrev pub one_category : ℕ → Words → Result (List ℕ) EntryFault
 one_category n (One w) = Ok w
 one_category n _ = Err (NoCategory n)
 
--- each token of features is a later form
-abbrev pub none_later : Option Place → Result (Row (FeatureText (List ℕ))) EntryFault
-none_later None = Ok Done
-none_later (Some p) = Err (BadFeatures LaterForm p)
-
 -- the entry that a record stands for
 abbrev pub closed : Open → Result EntryText EntryFault
 closed o =
     one_word o.line o.word >>= λ word.
     one_category o.line o.category >>= λ category.
-    none_later o.later >>= λ features.
+    features_of stage o.features >>= λ features.
     Ok (record { line = o.line; word = word; category = category; gloss = gloss_of o.gloss; features = features })

@@ -3,19 +3,21 @@ use Rattle.std.specs.Prelude.{◌≡◌, ℕ, ◌+◌, ◌≤◌, List, [], ◌�
 use Rattle.std.specs.List.{filter}
 use denote.Ref.{Bor}
 use Rattle.patr_model.specs.declared.field.Marker.{Marker}
-use Rattle.patr_model.specs.Grammar.{Done}
 use Rattle.patr_model.specs.LexiconLines.{Field, Fields}
-use Rattle.patr_model.specs.LexiconText.{EntryText, EntryFault, Records, Fails, Misread, ◌>>=◌, is_known, records_of, gloss_of, entries, read_fields}
+use Rattle.patr_model.specs.LexiconText.{EntryText, EntryFault, Records, Fails, Misread, ◌>>=◌, is_known, records_of, entries, read_fields}
 use Rattle.patr_model.specs.Built.{stage}
 use Rattle.patr_text.specs.declared.fault.Fault.{Fault}
 use Rattle.patr_text.specs.declared.fault.Fault.TheVariants.{Memory, Refused}
+use Rattle.patr_text.specs.declared.token.Token.{Token}
+use Rattle.patr_grammar.specs.declared.grammar.GrammarCause.{GrammarCause}
+use Rattle.patr_grammar.specs.Features.{features_in, AreRefusedFor}
 use Rattle.patr_lexicon.specs.declared.lexicon.Entry as code
 use Rattle.patr_lexicon.specs.declared.lexicon.LexiconCause.{LexiconCause}
 use Rattle.patr_lexicon.specs.declared.record.Record as code_record
 use Rattle.patr_lexicon.specs.declared.state.State.{State}
 use Rattle.patr_lexicon.specs.declared.state.State.TheVariants.{Start, Skipped, Within}
 use Rattle.patr_lexicon.specs.Reading.{AreEntriesOf, fault_of}
-use Rattle.patr_lexicon.specs.Records.{Words, Empty, One, Several, Open, with_pieces, with_fields, closed}
+use Rattle.patr_lexicon.specs.Records.{Words, Empty, One, Several, Open, bytes_in, with_pieces, with_fields, closed}
 use Rattle.patr_lexicon.specs.Parts.{record_seen}
 
 -- the records of fields, ignored fields left out
@@ -66,9 +68,17 @@ abbrev pub Follows : {X : Type 0} → Result (List EntryText) EntryFault → Res
 Follows now (Ok x) next = now ≡ next x
 Follows now (Err e) next = FailsFor now e
 
--- the texts of an entry, or its fault
+-- features of some tokens are refused for this cause
+abbrev pub RefusesSome : GrammarCause → Type 0
+RefusesSome c = (text : List ℕ) × (ts : List Token) × AreRefusedFor stage text ts (Refused c)
+
+-- where features are refused for the one cause, the other tells of their fault
+abbrev pub TellsOf : GrammarCause → LexiconCause → Type 0
+TellsOf c d = (text : List ℕ) (ts : List Token) → AreRefusedFor stage text ts (Refused c) → FailsFor (features_in stage text ts) (Refused d)
+
+-- the word and the category of an entry, or its fault
 abbrev pub Closes : Open → Result (Bor (List ℕ) × Bor (List ℕ)) LexiconCause → Type 0
-Closes o (Ok x) = closed o ≡ Ok (record { line = o.line; word = x.0.now; category = x.1.now; gloss = gloss_of o.gloss; features = Done })
+Closes o (Ok x) = (o.word ≡ One x.0.now) × (o.category ≡ One x.1.now)
 Closes o (Err c) = (f : EntryFault) × Tells c f × (closed o ≡ Err f)
 
 -- ---- how many texts are still to be numbered
@@ -86,7 +96,7 @@ some_text (b ∷ bs) = 1
 
 -- how many texts a record has at most
 abbrev pub most_texts : Open → ℕ
-most_texts o = 1 + some_words o.category + some_text o.gloss
+most_texts o = 1 + some_words o.category + some_text o.gloss + bytes_in o.features
 
 -- how many texts the record has at most, where there is one
 abbrev pub most_texts_of : Option code_record.Record → ℕ

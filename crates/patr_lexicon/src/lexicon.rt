@@ -5,7 +5,7 @@ ghost use Rattle.patr_lexicon.specs.Entries.{is_of};
 
 use crate::listing::{list_of, numbers_by_word};
 use indexmap::IndexMap;
-use patr_grammar::Element;
+use patr_grammar::{Element, What, expected_text};
 use patr_text::{Id, Memory};
 use std::alloc::Global;
 use std::marker::Model;
@@ -29,7 +29,13 @@ pub enum LexiconCause {
     /// A record's last `\c` field has not exactly one word, or there is none. The line is that of its `\w`.
     #[error("lexicon {line}: no category")]
     NoCategory { line: u32 },
-    /// A token of features stands here.
+    /// Something else has to stand here in a text of features.
+    #[error("lexicon {line}:{column}: expected {}", expected_text(.what))]
+    Expected { line: u32, column: u32, what: What },
+    /// A path of features has more than 32 attributes; the first too many stands here.
+    #[error("lexicon {line}:{column}: path too long")]
+    PathTooLong { line: u32, column: u32 },
+    /// A form of features that is not built yet begins here.
     #[error("lexicon {line}:{column}: not built yet")]
     LaterForm { line: u32, column: u32 },
 }

@@ -1,6 +1,7 @@
 //! The notation of lexicons: the entries that the bytes of a lexicon stand for, or why they stand for none.
 #![tactic(auto)]
 
+mod features;
 mod gloss;
 mod lexicon;
 mod line;

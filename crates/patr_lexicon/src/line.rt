@@ -1,5 +1,5 @@
 //! The lines of a lexicon.
-ghost use Rattle.std.specs.Prelude.{◌≡◌, ◌+◌, ◌-◌, ◌∷◌, ◌<◌, ◌≤◌, ◌^◌, length, nat_eq, drop, IfSome, ℕ, false, ◌&&◌};
+ghost use Rattle.std.specs.Prelude.{◌≡◌, ◌+◌, ◌-◌, ◌∷◌, ◌++◌, ◌<◌, ◌≤◌, ◌^◌, length, nat_eq, drop, IfSome, ℕ, false, ◌&&◌};
 ghost use Rattle.std.specs.Option.{option_map};
 ghost use Rattle.std.specs.List.{prefix_len, suffix_len};
 ghost use Rattle.patr_model.specs.Session.{is_blank, pieces};
@@ -7,7 +7,7 @@ ghost use Rattle.patr_model.specs.Tokens.{is_control};
 ghost use Rattle.patr_model.specs.LexiconLines.{is_edge, marker_len, blank_len, begins_with, is_white_line, is_comment, marker_of, kind, control, reads_comments, control_in, comments_after, bad_token, line_at, lines};
 ghost use Rattle.patr_model.specs.LexiconText.{trimmed};
 ghost use Rattle.patr_lexicon.specs.Reading.{place_at};
-ghost use Rattle.patr_lexicon.specs.Parts.{rest_lines, rest_len, IsCut, past, place_seen};
+ghost use Rattle.patr_lexicon.specs.Parts.{NoLf, rest_lines, rest_text, rest_len, IsCut, past, place_seen};
 
 use patr_model::{LineKind, Marker};
 
@@ -23,6 +23,8 @@ pub struct Place {
 /// A line from a place on, up to the line's end.
 #[derive(Clone, Copy)]
 pub struct Piece<'a> {
+    /// Where the piece begins, in bytes of the whole text.
+    pub start: usize,
     /// The line, from 1.
     pub line: u32,
     /// 1 and the number of bytes before the piece on its line.
@@ -109,6 +111,8 @@ pub fn kind_of(line: &str) -> LineKind
 /// The first line of a text without its LF, and what stands behind the LF, where there is one.
 pub fn cut_line(text: &str) -> (&str, Option<&str>)
     ensures lines { pieces (nat_eq 10) text.now ≡ result.0.now ∷ rest_lines result.1 }
+    ensures cut { text.now ≡ result.0.now ++ rest_text result.1 }
+    ensures no_lf { NoLf result.0.now }
     ensures len { length result.0.now + rest_len result.1 ≡ length text.now }
 {
     match text.split_once('\n') {

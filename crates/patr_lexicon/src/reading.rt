@@ -7,6 +7,7 @@ ghost use Rattle.patr_model.specs.LexiconLines.{lines, fields_of};
 ghost use Rattle.patr_model.specs.LexiconText.{EntryText as Text, EntryFault, read_fields};
 ghost use Rattle.patr_model.specs.Built.{stage};
 ghost use Rattle.patr_text.specs.Texts.{Extends};
+ghost use Rattle.patr_lexicon.specs.Laid.{IsLaidBefore};
 ghost use Rattle.patr_lexicon.specs.Reading.{StandsFor, IsRefusedFor, AreEntriesOf};
 ghost use Rattle.patr_lexicon.specs.States.{FailsFor, ended_before, most_texts_of, IsKept};
 
@@ -20,9 +21,8 @@ use std::alloc::Global;
 /// What the bytes of a lexicon stand for, with the numbers that the table gives to its texts.
 ///
 /// It is refused for the first of these that there is: it is not UTF-8; a bad character; text before the
-/// first `\w`; the first record that stands for no entry, by its word, its category or its features. A
-/// record with features is refused, since those are not built yet. Other failures are for want of memory.
-/// The table keeps the texts that it holds, whatever the answer.
+/// first `\w`; the first record that stands for no entry, by its word, its category or its features. Other
+/// failures are for want of memory. The table keeps the texts that it holds, whatever the answer.
 pub fn read_lexicon(
     alloc: Global,
     symbols: &mut Symbols,
@@ -83,29 +83,34 @@ fn read_records(
     let mut entries = Vec::new(alloc);
     let mut state = State::Start;
     let mut rest = text;
+    let mut start = 0;
     let mut number = 1;
     'lines: loop {
         let (line, behind) = cut_line(rest);
-        let Step { state: next, ended } = state.line(alloc, number, line)?;
-        keep(alloc, &mut entries, symbols, ended)?;
+        let Step { state: next, ended } = state.line(alloc, start, number, line)?;
+        keep(alloc, &mut entries, symbols, text, ended)?;
         let Some(behind) = behind else {
-            keep(alloc, &mut entries, symbols, next.record())?;
+            keep(alloc, &mut entries, symbols, text, next.record())?;
             return Ok(entries);
         };
         state = next;
         rest = behind;
+        start += line.len() + 1;
         number += 1;
     }
 }
 
-/// Puts the entry of a record that has ended behind the others.
+/// Puts the entry of a record that has ended behind the others. The record is one of the text.
 fn keep(
     alloc: Global,
     entries: &mut Vec<Entry>,
     symbols: &mut Symbols,
+    text: &str,
     ended: Option<Record<'_>>,
 ) -> Result<(), Fault<LexiconCause>>
-    requires { length symbols.old + most_texts_of ended < 2 ^ 32 }
+    requires short { length text.now < 2 ^ 32 - 1 }
+    requires laid { IsLaidBefore text.now (length text.now) ended }
+    requires room { length symbols.old + most_texts_of ended < 2 ^ 32 - 1 }
     ensures kept { IfOk result (λ _. IsKept symbols.new entries.old.items entries.new.items ended.entry) }
     ensures refused { IfErr result (λ fault. (rest : Result (List Text) EntryFault) → FailsFor (ended_before ended.entry rest) fault) }
     ensures extends { Extends symbols.old symbols.new }
@@ -114,7 +119,7 @@ fn keep(
     let Some(record) = ended else {
         return Ok(());
     };
-    let entry = record.entry(alloc, symbols)?;
+    let entry = record.entry(alloc, symbols, text)?;
     entries.push(entry)?;
     Ok(())
 }

@@ -1,7 +1,8 @@
 //! How far a lexicon is read.
-ghost use Rattle.std.specs.Prelude.{◌≡◌, ◌+◌, ◌^◌, ◌<◌, ◌≤◌, ◌∷◌, [], length, IfOk};
+ghost use Rattle.std.specs.Prelude.{◌≡◌, ◌+◌, ◌-◌, ◌^◌, ◌<◌, ◌≤◌, ◌∷◌, [], List, ℕ, length, IfOk};
 ghost use Rattle.patr_model.specs.declared.field.Marker.TheVariants as markers;
 ghost use Rattle.patr_model.specs.LexiconLines.{Fields, kind, line_at, line_before};
+ghost use Rattle.patr_lexicon.specs.Laid.{StandsAt, end_byte, IsLaidBefore};
 ghost use Rattle.patr_lexicon.specs.Parts.{piece_seen};
 ghost use Rattle.patr_lexicon.specs.States.{Follows, goes_on, ended_before, record_of, most_texts_of};
 
@@ -44,17 +45,18 @@ impl<'a> State<'a> {
     }
 
     /// The state behind a line that belongs to the field before it.
-    fn text(self, alloc: Global, piece: Piece<'a>) -> Result<State<'a>, Fault<LexiconCause>>
-        requires line { piece.line + length piece.text.now < 2 ^ 32 }
-        requires column { piece.column + length piece.text.now < 2 ^ 32 }
+    fn text(self, piece: Piece<'a>) -> Result<State<'a>, Fault<LexiconCause>>
+        requires fits { piece.start + length piece.text.now < 2 ^ 64 }
+        requires some { 0 < length piece.text.now }
         ensures reads { (fs : Fields) → Follows (goes_on self.entry (record { pieces = piece_seen piece.entry ∷ fs.pieces; fields = fs.fields })) result (λ s. goes_on s fs) }
-        ensures most_texts { IfOk result (λ s. most_texts_of (record_of s) ≤ most_texts_of (record_of self.entry) + 1) }
+        ensures most_texts { IfOk result (λ s. most_texts_of (record_of s) ≤ most_texts_of (record_of self.entry) + length piece.entry.text.now) }
+        ensures laid { (text : List ℕ) → StandsAt text piece.entry.start (piece_seen piece.entry) → IsLaidBefore text piece.entry.start (record_of self.entry) → IfOk result (λ s. IsLaidBefore text (end_byte piece.entry) (record_of s)) }
     {
         match self {
             State::Start => Err(Fault::Refused(LexiconCause::NoWord { line: piece.line })),
             State::Skipped => Ok(State::Skipped),
             State::Within(field, mut record) => {
-                record.push(alloc, field, piece)?;
+                record.push(field, piece)?;
                 Ok(State::Within(field, record))
             }
         }
@@ -68,15 +70,15 @@ impl<'a> State<'a> {
         piece: Piece<'a>,
     ) -> Result<State<'a>, Fault<LexiconCause>>
         requires marker { marker ≡ markers.Word → ⊥ }
-        requires line { piece.line + length piece.text.now < 2 ^ 32 }
-        requires column { piece.column + length piece.text.now < 2 ^ 32 }
+        requires fits { piece.start + length piece.text.now < 2 ^ 64 }
         ensures reads { (fs : Fields) → Follows (goes_on self.entry (record { pieces = []; fields = record { marker = marker; line = piece.entry.line; pieces = piece_seen piece.entry ∷ fs.pieces } ∷ fs.fields })) result (λ s. goes_on s fs) }
-        ensures most_texts { IfOk result (λ s. most_texts_of (record_of s) ≤ most_texts_of (record_of self.entry) + 1) }
+        ensures most_texts { IfOk result (λ s. most_texts_of (record_of s) ≤ most_texts_of (record_of self.entry) + (1 + length piece.entry.text.now)) }
+        ensures laid { (text : List ℕ) → StandsAt text piece.entry.start (piece_seen piece.entry) → IsLaidBefore text piece.entry.start (record_of self.entry) → IfOk result (λ s. IsLaidBefore text (end_byte piece.entry) (record_of s)) }
     {
         match self {
             State::Within(_, mut record) => {
                 record.begin(alloc, marker);
-                record.push(alloc, marker, piece)?;
+                record.push(marker, piece)?;
                 Ok(State::Within(marker, record))
             }
             State::Start | State::Skipped => match marker {
@@ -93,10 +95,10 @@ impl<'a> State<'a> {
         marker: Marker,
         piece: Piece<'a>,
     ) -> Result<Step<'a>, Fault<LexiconCause>>
-        requires line { piece.line + length piece.text.now < 2 ^ 32 }
-        requires column { piece.column + length piece.text.now < 2 ^ 32 }
+        requires fits { piece.start + length piece.text.now < 2 ^ 64 }
         ensures reads { (fs : Fields) → Follows (goes_on self.entry (record { pieces = []; fields = record { marker = marker; line = piece.entry.line; pieces = piece_seen piece.entry ∷ fs.pieces } ∷ fs.fields })) result (λ s. ended_before s.ended (goes_on s.state fs)) }
-        ensures most_texts { IfOk result (λ s. most_texts_of s.ended + most_texts_of (record_of s.state) ≤ most_texts_of (record_of self.entry) + 1) }
+        ensures most_texts { IfOk result (λ s. most_texts_of s.ended + most_texts_of (record_of s.state) ≤ most_texts_of (record_of self.entry) + (1 + length piece.entry.text.now)) }
+        ensures laid { (text : List ℕ) → StandsAt text piece.entry.start (piece_seen piece.entry) → IsLaidBefore text piece.entry.start (record_of self.entry) → IfOk result (λ s. IsLaidBefore text (end_byte piece.entry) s.ended × IsLaidBefore text (end_byte piece.entry) (record_of s.state)) }
     {
         match marker {
             Marker::Word => Ok(Step {
@@ -110,18 +112,20 @@ impl<'a> State<'a> {
         }
     }
 
-    /// What a line, without its LF, makes of a state. `NoWord` is answered exactly where the line is text
-    /// before the first `\w`. Fails else for want of memory alone.
+    /// What a line, without its LF, makes of a state. The line begins at byte `start` of the whole text.
+    /// `NoWord` is answered exactly where the line is text before the first `\w`. Fails else for want of
+    /// memory alone.
     pub fn line(
         self,
         alloc: Global,
+        start: usize,
         number: u32,
         line: &'a str,
     ) -> Result<Step<'a>, Fault<LexiconCause>>
-        requires line { number + length line.now < 2 ^ 32 }
-        requires column { 1 + length line.now < 2 ^ 32 }
+        requires { start + length line.now < 2 ^ 32 - 1 }
         ensures reads { (fs : Fields) → Follows (goes_on self.entry (line_before (line_at number line.now) (kind line.now) fs)) result (λ s. ended_before s.ended (goes_on s.state fs)) }
         ensures most_texts { IfOk result (λ s. most_texts_of s.ended + most_texts_of (record_of s.state) ≤ most_texts_of (record_of self.entry) + length line.now) }
+        ensures laid { (text : List ℕ) → StandsAt text start (line_at number line.now) → IsLaidBefore text start (record_of self.entry) → IfOk result (λ s. IsLaidBefore text (start + length line.now) s.ended × IsLaidBefore text (start + length line.now) (record_of s.state)) }
     {
         match kind_of(line) {
             LineKind::Ignored => Ok(Step {
@@ -130,6 +134,7 @@ impl<'a> State<'a> {
             }),
             LineKind::Begins(marker, len) => {
                 let piece = Piece {
+                    start: start + len,
                     line: number,
                     column: 1 + len as u32,
                     text: &line[len..],
@@ -138,12 +143,13 @@ impl<'a> State<'a> {
             }
             LineKind::Text => {
                 let piece = Piece {
+                    start,
                     line: number,
                     column: 1,
                     text: line,
                 };
                 Ok(Step {
-                    state: self.text(alloc, piece)?,
+                    state: self.text(piece)?,
                     ended: None,
                 })
             }

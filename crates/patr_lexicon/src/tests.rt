@@ -1,41 +1,76 @@
 use super::*;
+use patr_grammar::{Element, PathText, TermText};
 use patr_text::{Fault, Id, Symbols};
 use std::alloc::Global;
 use std::process::Abort;
 use std::test::Fail;
 
-/// The text of a number.
-fn text<'a, A: Abort>(rt: &A, symbols: &'a Symbols, id: Id) -> &'a str {
-    assert!(rt; id.0 < symbols.len());
-    symbols.text(id)
+/// The text of a number, where the table has one.
+fn text(symbols: &Symbols, id: Id) -> &str {
+    if id.0 < symbols.len() {
+        symbols.text(id)
+    } else {
+        "?"
+    }
+}
+
+/// A path of attributes in angle brackets.
+fn shown_path(alloc: Global, symbols: &Symbols, path: &PathText) -> Result<String, Fail> {
+    let mut shown = String::new(alloc);
+    for attribute in &path.attributes {
+        if !shown.is_empty() {
+            shown.push_str(" ")?;
+        }
+        shown.push_str(text(symbols, *attribute))?;
+    }
+    Ok(format!(in alloc; "<{shown}>")?)
+}
+
+/// Features, with a space before each.
+fn shown_features(alloc: Global, symbols: &Symbols, features: &[Element]) -> Result<String, Fail> {
+    let mut shown = String::new(alloc);
+    for feature in features {
+        let Element::Equation(equation) = feature;
+        let left = shown_path(alloc, symbols, &equation.left)?;
+        let right = match &equation.right {
+            TermText::Atom(atom) => String::from_str(alloc, text(symbols, *atom))?,
+            TermText::Path(path) => shown_path(alloc, symbols, path)?,
+        };
+        shown.push_str(&format!(in alloc; " {left} = {right}")?)?;
+    }
+    Ok(shown)
+}
+
+/// Entries, each with its line.
+fn shown_entries(alloc: Global, symbols: &Symbols, entries: &[Entry]) -> Result<String, Fail> {
+    let mut shown = String::new(alloc);
+    for entry in entries {
+        let word = text(symbols, entry.word);
+        let category = text(symbols, entry.category);
+        shown.push_str(&format!(in alloc; "{} {word}={category}", entry.line)?)?;
+        if let Some(gloss) = entry.gloss {
+            let gloss = text(symbols, gloss);
+            shown.push_str(&format!(in alloc; "'{gloss}'")?)?;
+        }
+        shown.push_str(&shown_features(alloc, symbols, &entry.features)?)?;
+        shown.push_str("|")?;
+    }
+    Ok(shown)
 }
 
 /// The entries that are read, or why the bytes are refused.
 fn shown<A: Abort>(rt: &A, alloc: Global, bytes: &[u8]) -> Result<String, Fail> {
     let mut symbols = Symbols::new(alloc)?;
-    assert!(rt; symbols.len() < 100 && bytes.len() < 100);
+    assert!(rt; symbols.len() < 100 && bytes.len() < 200);
     match read_lexicon(alloc, &mut symbols, bytes) {
-        Ok(lexicon) => {
-            let mut shown = String::new(alloc);
-            for entry in lexicon.entries() {
-                let word = text(rt, &symbols, entry.word);
-                let category = text(rt, &symbols, entry.category);
-                shown.push_str(&format!(in alloc; "{} {word}={category}", entry.line)?)?;
-                if let Some(gloss) = entry.gloss {
-                    let gloss = text(rt, &symbols, gloss);
-                    shown.push_str(&format!(in alloc; "'{gloss}'")?)?;
-                }
-                shown.push_str("|")?;
-            }
-            Ok(shown)
-        }
+        Ok(lexicon) => shown_entries(alloc, &symbols, lexicon.entries()),
         Err(Fault::Refused(cause)) => Ok(format!(in alloc; "{cause}")?),
         Err(Fault::Memory) => Ok(format!(in alloc; "no memory")?),
     }
 }
 
 /// Lexicons, and the entries that they stand for.
-const READ: [(&[u8], &str); 24] = [
+const READ: [(&[u8], &str); 30] = [
     (b"", ""),
     (b"; nothing\n\n \t\r\n  ; nothing else", ""),
     (b"\\w the\n\\c Det\n\\w dog\n\\c N\n", "1 the=Det|3 dog=N|"),
@@ -66,6 +101,27 @@ const READ: [(&[u8], &str); 24] = [
         b"\\w a\n\\c A\n\\w b\n\\c A\n\\x c\n\\g a",
         "1 a=A|3 b=A'a'|",
     ),
+    (b"\\w a\n\\c A\n\\f <f> = x", "1 a=A <f> = x|"),
+    (
+        b"\\w a\n\\c A\n\\f <x y> = ; not\n; this\n\\f z\n <u>\n=v",
+        "1 a=A <x y> = z <u> = v|",
+    ),
+    (
+        b"\\w a\n\\f <agr num> = sg\n\\c A\n\\g g\n\\f <rule> = <subj head>\n\\w b\n\\c B\n",
+        "1 a=A'g' <agr num> = sg <rule> = <subj head>|6 b=B|",
+    ),
+    (
+        b"\\w a\n\\c A\n\\f <f>\n\\x = y\n z\n\\f = x;y",
+        "1 a=A <f> = x|",
+    ),
+    (
+        b"\\w a\n\\c A\n\\f <\xc3\xa9> = \xc3\xa9\xc3\xa9\r\n",
+        "1 a=A <\u{e9}> = \u{e9}\u{e9}|",
+    ),
+    (
+        b"\\w a\n\\c A\n\\f < a a a a a a a a a a a a a a a a a a a a a a a a a a a a a a a a> = x",
+        "1 a=A <a a a a a a a a a a a a a a a a a a a a a a a a a a a a a a a a> = x|",
+    ),
 ];
 
 #[test]
@@ -77,7 +133,7 @@ fn entries_are_read(rt: HostRuntime) -> Result<(), Fail> {
 }
 
 /// Lexicons that stand for no entries, and why.
-const REFUSED: [(&[u8], &str); 34] = [
+const REFUSED: [(&[u8], &str); 48] = [
     (b"\\c \x01\xff", "lexicon: not UTF-8 at byte 4"),
     (b"\\w a\n\\g b\n\xff", "lexicon: not UTF-8 at byte 10"),
     (b"\\w\n\\c \x01", "lexicon 2:4: bad character"),
@@ -105,11 +161,12 @@ const REFUSED: [(&[u8], &str); 34] = [
     (b"\\w a\n\\c A\n \\g b", "lexicon 1: no category"),
     (b"\\w a\n\\c A\n\\c\n\\f x", "lexicon 1: no category"),
     (b"\n\\w a\n\\w b\n\\c B", "lexicon 2: no category"),
-    (b"\\w a\n\\c A\n\\f <f> = x", "lexicon 3:4: not built yet"),
+    (b"\\w a\n\\f =\n", "lexicon 1: no category"),
+    (b"\\w a\n\\c A\n\\f Foo", "lexicon 3:4: not built yet"),
     (b"\\w a\n\\f  Sg3\n\\c A", "lexicon 2:5: not built yet"),
     (
-        b"\\w a\n\\c A\n\\f ; x\n\n\t. y",
-        "lexicon 5:2: not built yet",
+        b"\\w a\n\\c A\n\\f <x> = y {",
+        "lexicon 3:12: not built yet",
     ),
     (
         b"\\w a\n\\c A\n\\f\n\\f x\n\\f y",
@@ -122,6 +179,52 @@ const REFUSED: [(&[u8], &str); 34] = [
     (
         b"\\w a\n\\c A\n\\f x\n\\w b c",
         "lexicon 3:4: not built yet",
+    ),
+    (
+        b"\\w a\n\\c A\n\\f ; x\n\n\t. y",
+        "lexicon 5:2: expected an equation or a name",
+    ),
+    (
+        b"\\w a\n\\c A\n\\f Let",
+        "lexicon 3:4: expected an equation or a name",
+    ),
+    (
+        b"\\w a\n\\c A\n\\f =\n\\w",
+        "lexicon 3:4: expected an equation or a name",
+    ),
+    (
+        b"\\w a\n\\c A\n\\f <>",
+        "lexicon 3:5: expected an attribute",
+    ),
+    (b"\\w a\n\\c A\n\\f <a\n b = c", "lexicon 4:4: expected '>'"),
+    (b"\\w a\n\\c A\n\\f <a> b", "lexicon 3:8: expected '='"),
+    (
+        b"\\w a\n\\c A\n\\f <x> = {",
+        "lexicon 3:10: expected a path or an atom",
+    ),
+    (
+        b"\\w a\n\\c A\n\\f <x> =",
+        "lexicon 3:9: expected a path or an atom",
+    ),
+    (
+        b"\\w a\r\n\\c A\r\n\\f <x> =\r\n",
+        "lexicon 3:10: expected a path or an atom",
+    ),
+    (
+        b"\\w a\n\\c A\n\\f <x> =\n ; x\n\\g y\n",
+        "lexicon 3:9: expected a path or an atom",
+    ),
+    (
+        b"\\w a\n\\c A\n\\f <x> =\n ; x\n\\f\n\n",
+        "lexicon 5:3: expected a path or an atom",
+    ),
+    (
+        b"\\w a\n\\c A\n\\f <x> = ; x\n",
+        "lexicon 3:13: expected a path or an atom",
+    ),
+    (
+        b"\\w a\n\\c A\n\\f < a a a a a a a a a a a a a a a a a a a a a a a a a a a a a a a a a> = x",
+        "lexicon 3:70: path too long",
     ),
     (b"\\w a b\n\\c A\n\\w", "lexicon 1: several words"),
 ];

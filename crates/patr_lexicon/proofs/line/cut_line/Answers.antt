@@ -12,3 +12,9 @@ pub returns-in-None-clause-lines : goal.returns-in-None-clause-lines
 returns-in-None-clause-lines c =
     let lacks = rw c.in-None.is at (split_parts 10 c.args.text.now c.split_once.result c.split_once.ensures.cases (lit< tt)) in
     line_last c.args.text.now lacks
+
+pub returns-in-Some-clause-no_lf : goal.returns-in-Some-clause-no_lf
+returns-in-Some-clause-no_lf c = (rw c.in-Some.is at (split_parts 10 c.args.text.now c.split_once.result c.split_once.ensures.cases (lit< tt))).1
+
+pub returns-in-None-clause-no_lf : goal.returns-in-None-clause-no_lf
+returns-in-None-clause-no_lf c = rw c.in-None.is at (split_parts 10 c.args.text.now c.split_once.result c.split_once.ensures.cases (lit< tt))

@@ -4,6 +4,7 @@ use Rattle.patr_model.specs.LexiconLines.{fields_of, numbered}
 use Rattle.patr_lexicon.specs.declared.record.Record.{Record}
 use Rattle.patr_lexicon.specs.Parts.{rest_lines, rest_len}
 use Rattle.patr_lexicon.specs.States.{FailsFor, IsKept, goes_on, ended_before, record_of, most_texts_of}
+use Rattle.patr_lexicon.proofs.Places.{first_begins, line_stands, next_begins, record_later}
 use Rattle.patr_lexicon.proofs.Steps.{none_read, line_fails, line_read, line_kept, kept_read, fails_behind, last_read, next_read, all_read}
 use Rattle.patr_lexicon.proofs.reading.read_records.Goals as goal
 
@@ -11,8 +12,26 @@ pub lines-init : goal.lines-init
 lines-init c = record {
   read = rw c.new-entries.ensures.items (none_read c.args.symbols.now c.args.text.now);
   line = omega arith;
+  begins = first_begins c.args.text.now c.utf8.text;
+  laid = tt;
   utf8 = c.utf8.text;
 }
+
+pub keep-requires-clause-laid : goal.keep-requires-clause-laid
+keep-requires-clause-laid c =
+    let l = c.lines in
+    let text = c.args.text.now in
+    let line = c.cut_line.result.0.now in
+    let stands = line_stands text l.start l.number l.rest.now line c.cut_line.result.1 l.invariant.begins c.cut_line.ensures.cut c.cut_line.ensures.no_lf in
+    record_later text (l.start + length line) (length text) c.in_ok-next.field-0.ended stands.ends.0 (c.in_ok-next.ensures.laid text stands l.invariant.laid).0
+
+pub keep-requires-in_default-clause-laid : goal.keep-requires-in_default-clause-laid
+keep-requires-in_default-clause-laid c =
+    let l = c.lines in
+    let text = c.args.text.now in
+    let line = c.cut_line.result.0.now in
+    let stands = line_stands text l.start l.number l.rest.now line c.cut_line.result.1 l.invariant.begins c.cut_line.ensures.cut c.cut_line.ensures.no_lf in
+    rw c.record.ensures (record_later text (l.start + length line) (length text) (record_of c.in_ok-next.field-0.state) stands.ends.0 (c.in_ok-next.ensures.laid text stands l.invariant.laid).1)
 
 pub returns-in_err-next-clause-refused : goal.returns-in_err-next-clause-refused
 returns-in_err-next-clause-refused c =
@@ -89,8 +108,11 @@ lines-preserved c =
     let keeps = c.in_ok-keep.ensures in
     let kept = line_kept old text l.symbols l.entries.items l.state l.number l.rest.now c.cut_line.result.0.now behind c.cut_line.ensures.lines step.state step.ended table es
     l.invariant.read read.reads read.most_texts c.cut_line.ensures.len keeps.extends keeps.growth keeps.kept in
+    let stands = line_stands text l.start l.number l.rest.now c.cut_line.result.0.now behind l.invariant.begins c.cut_line.ensures.cut c.cut_line.ensures.no_lf in
     record {
       read = next_read old text table es step.state l.number behind c.in-Some.behind c.in-Some.is kept;
       line = omega (arith, l.invariant.line, c.cut_line.ensures.len, ap rest_len c.in-Some.is);
+      begins = next_begins text l.start l.number l.rest.now c.cut_line.result.0.now behind l.invariant.begins c.cut_line.ensures.cut c.cut_line.ensures.no_lf c.utf8.text c.in-Some.behind c.in-Some.is;
+      laid = record_later text (l.start + length c.cut_line.result.0.now) (l.start + (length c.cut_line.result.0.now + 1)) (record_of step.state) (omega arith) (read.laid text stands l.invariant.laid).1;
       utf8 = search rules;
     }

@@ -2,6 +2,8 @@ use Rattle.std.proofs.Common.{◌+◌, ◌≤◌, length}
 use denote.Text.{Utf8}
 use denote.Shadow.{shadow}
 use Rattle.patr_lexicon.specs.States.{record_of, most_texts_of}
+use Rattle.patr_lexicon.specs.Laid.{IsLaidBefore}
+use Rattle.patr_lexicon.proofs.Places.{BeginsAt}
 use Rattle.patr_lexicon.proofs.Steps.{IsRead, left_at}
 use Rattle.patr_lexicon.proofs.reading.read_records.Given as goal
 
@@ -9,6 +11,8 @@ abbrev pub invariant-lines : goal.invariant-lines
 invariant-lines l = record {
   read : IsRead l.fn.symbols l.fn.text l.symbols l.entries.items (left_at l.state l.number l.rest) (most_texts_of (record_of l.state) + length l.rest);
   line : l.number + length l.rest ≤ 1 + length l.fn.text;
+  begins : BeginsAt l.fn.text l.start l.number l.rest;
+  laid : IsLaidBefore l.fn.text l.start (record_of l.state);
   utf8 : shadow (Utf8 l.rest);
 }
 

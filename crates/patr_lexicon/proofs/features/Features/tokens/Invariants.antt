@@ -1,0 +1,7 @@
+use Rattle.std.proofs.Common.{take}
+use Rattle.patr_lexicon.specs.Parts.{pieces_seen}
+use Rattle.patr_lexicon.specs.Cut.{AreCutFrom}
+use Rattle.patr_lexicon.proofs.features.Features.tokens.Given as goal
+
+abbrev pub invariant-loop-piece : goal.invariant-loop-piece
+invariant-loop-piece l = AreCutFrom l.text (pieces_seen (take l.piece-index l.piece-items)) l.all.items
