@@ -9,6 +9,7 @@ mod Listed
 mod Listing
 mod Merged
 mod Owned
+mod Parts
 mod Placed
 mod Placing
 mod RuleItems

@@ -3,17 +3,9 @@ use Rattle.std.proofs.Common.{◌≡◌, ℕ, zero, suc, ◌+◌, ◌<◌, Bool,
 use Rattle.std.proofs.lemmas.List.{get_or-set_same, get_or-set_other, get_or-map, map-set, length-take-le, take_more}
 use Rattle.std.proofs.Math.Seq.{map-set_same}
 use Rattle.patr_model.specs.Numbered.{places}
+use Rattle.patr_model.proofs.Selected.{places_append}
 use Rattle.patr_text.specs.declared.symbols.Id.{Id}
 use Rattle.patr_library.specs.Lists.{numbers, with_number, has_key}
-
-pub places_append : {X : Type 0} (test : X → Bool) (i : ℕ) (xs ys : List X) → places test i (xs ++ ys) ≡ places test i xs ++ places test (i + length xs) ys
-places_append test i [] ys = ap (λ n. places test n ys) (omega arith)
-places_append test i (x ∷ xs) ys = go (test x) (places_append test (suc i) xs ys ∙ ap (λ n. places test (suc i) xs ++ places test n ys) (omega arith))
-  where
-    go : (b : Bool) → places test (suc i) (xs ++ ys) ≡ places test (suc i) xs ++ places test (i + length (x ∷ xs)) ys
-        → cond b (i ∷ places test (suc i) (xs ++ ys)) (places test (suc i) (xs ++ ys)) ≡ cond b (i ∷ places test (suc i) xs) (places test (suc i) xs) ++ places test (i + length (x ∷ xs)) ys
-    go true e = ap (λ l. i ∷ l) e
-    go false e = e
 
 index_added : (es : List Id) (e : Id) (L : List (List ℕ)) (s : ℕ) → e.0 < length L → get_or L s [] ≡ places (has_key s) 0 es → get_or (with_number L e.0 (length es)) s [] ≡ places (has_key s) 0 (es ++ e ∷ [])
 index_added es e L s h is = go (nat_eq e.0 s) refl ∙ sym (places_append (has_key s) 0 es (e ∷ []))

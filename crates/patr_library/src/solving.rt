@@ -16,6 +16,9 @@ use patr_unify::{Steps, unify_at};
 use std::alloc::{AllocError, Global};
 use std::sync::ledger::Ledger;
 
+/// As many equations are taken one after another.
+const FEW_EQUATIONS: usize = 8;
+
 /// A block without old addresses, and a node of it.
 #[derive(Drop)]
 pub(crate) struct Least {
@@ -96,8 +99,9 @@ fn with_equation<L: Ledger>(
     Ok(made)
 }
 
-/// The least value of slots at which the equations hold, or `None` where no structure has one.
-pub(crate) fn solved<L: Ledger>(
+/// The least value of slots at which the equations hold, or `None` where no structure has one, found by taking one
+/// equation after another.
+fn solved_in_turn<L: Ledger>(
     alloc: Global,
     slots: u32,
     equations: &[Equation],
@@ -116,4 +120,37 @@ pub(crate) fn solved<L: Ledger>(
         so_far = next;
     }
     Ok(Some(so_far))
+}
+
+/// The least value of slots at which the equations hold, or `None` where no structure has one.
+///
+/// Many equations are solved half by half, so that each is copied as often as they can be halved, and not once for each
+/// of those behind it.
+pub(crate) fn solved<L: Ledger>(
+    alloc: Global,
+    slots: u32,
+    equations: &[Equation],
+    scratch: &mut Scratch,
+    steps: &mut Steps<L>,
+) -> Result<Option<Least>, Memory>
+    requires { AreWithin slots (equations_at equations.now) }
+    ensures some { IfOk result (λ found. IfSome found (λ made. IsLeastAt slots (equations_at equations.now) made.block made.root)) }
+    ensures none { IfOk result (λ found. IfNone found (HasNone slots (equations_at equations.now))) }
+{
+    if equations.len() <= FEW_EQUATIONS {
+        return solved_in_turn(alloc, slots, equations, scratch, steps);
+    }
+    let (front, back) = equations.split_at(equations.len() / 2);
+    let Some(left) = solved(alloc, slots, front, scratch, steps)? else {
+        return Ok(None);
+    };
+    let Some(right) = solved(alloc, slots, back, scratch, steps)? else {
+        return Ok(None);
+    };
+    let right = Rooted {
+        block: right.block,
+        root: Ref::New(right.root),
+    };
+    let made = unified(alloc, left, right, scratch, steps)?;
+    Ok(made)
 }

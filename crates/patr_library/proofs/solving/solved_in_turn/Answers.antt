@@ -4,7 +4,7 @@ use Rattle.patr_model.specs.Variants.{AreWithin}
 use Rattle.patr_expand.specs.Seen.{equation_at, equations_at}
 use Rattle.patr_library.specs.Solved.{HasNone, IsLeastAt}
 use Rattle.patr_library.proofs.Steps.{taken_more, all_of, within_taken, none_still}
-use Rattle.patr_library.proofs.solving.solved.Goals as goal
+use Rattle.patr_library.proofs.solving.solved_in_turn.Goals as goal
 
 pub with_equation-requires : goal.with_equation-requires
 with_equation-requires g c = c.loop-equation.invariant.rooted

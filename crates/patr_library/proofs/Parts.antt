@@ -1,0 +1,106 @@
+-- The least value of two lists of equations, from one of each.
+use Rattle.std.proofs.Common.{◌≡◌, ℕ, zero, suc, ◌+◌, List, [], ◌∷◌, ◌++◌, length, map, take, drop, Some, slice_get, refl, sym, ap, ◌∙◌, arith, subst}
+use Rattle.std.specs.List.{AllByRecursion}
+use Rattle.patr_model.specs.Structure.{Value, Node, Structure, arc, IsValue, IsStructure}
+use Rattle.patr_model.specs.Subsumption.{MapsInto, TakesBoth, IsUnifier}
+use Rattle.patr_model.specs.Equation.{Equation, Holds}
+use Rattle.patr_model.specs.Variants.{variant, RuleAt, IsLeastOf, AreWithin}
+use Rattle.patr_model.proofs.Members.{all_append, all_left, all_right}
+use Rattle.patr_model.proofs.Maps.{some_inj}
+use Rattle.patr_model.proofs.Variants.{rule_carried}
+use Rattle.patr_arena.specs.declared.value.Ref.TheVariants as ref
+use Rattle.patr_arena.specs.declared.value.Feature.{Feature}
+use Rattle.patr_library.specs.Own.{own_nodes}
+use Rattle.patr_library.specs.Solved.{IsLeastAt, HasNone, IsUnified, TakeNone}
+use Rattle.patr_library.proofs.Placed.{own_structure, own_is_value}
+use Rattle.patr_library.proofs.Steps.{all_of, same_least}
+
+-- a node has its slots but once
+slots_are : (G : Structure) (v : Value) (k : ℕ) (vs ws : List Value) → ((i : ℕ) (x : Value) → slice_get vs i ≡ Some x → arc G v (k + i) ≡ Some x)
+    → ((i : ℕ) (x : Value) → slice_get ws i ≡ Some x → arc G v (k + i) ≡ Some x) → length vs ≡ length ws → vs ≡ ws
+slots_are G v k [] [] f g n = refl
+slots_are G v k [] (y ∷ ws) f g n = absurd (omega (arith, n))
+slots_are G v k (x ∷ vs) [] f g n = absurd (omega (arith, n))
+slots_are G v k (x ∷ vs) (y ∷ ws) f g n =
+    let next : (i : ℕ) → arc G v (suc k + i) ≡ arc G v (k + suc i) = λ i. ap (λ m. arc G v m) (let e : suc k + i ≡ k + suc i = omega arith in e) in
+    let same : x ≡ y = some_inj x y (sym (f 0 x refl) ∙ g 0 y refl) in
+    let rest : vs ≡ ws = slots_are G v (suc k) vs ws (λ i z h. next i ∙ f (suc i) z h) (λ i z h. next i ∙ g (suc i) z h) (omega (arith, n)) in
+    ap (λ z. z ∷ vs) same ∙ ap (λ l. y ∷ l) rest
+
+module _ (cs : List ℕ) (es fs : List Equation) where
+  both_hold : (G : Structure) (v : Value) → RuleAt (variant cs es) G v → RuleAt (variant cs fs) G v → RuleAt (variant cs (es ++ fs)) G v
+  both_hold G v r s =
+      let first : (i : ℕ) → arc G v (0 + i) ≡ arc G v i = λ i. ap (λ m. arc G v m) (let e : 0 + i ≡ i = omega arith in e) in
+      let same : s.0 ≡ r.0 = slots_are G v 0 s.0 r.0 (λ i x h. first i ∙ s.2 i x h) (λ i x h. first i ∙ r.2 i x h) (s.1.count ∙ sym r.1.count) in (
+        r.0,
+        record {
+          count = r.1.count;
+          held = r.1.held;
+          equations = all_append (Holds G r.0) es fs r.1.equations (subst (λ vs. AllByRecursion (Holds G vs) fs) same s.1.equations);
+        },
+        r.2,
+      )
+
+  front_holds : (G : Structure) (v : Value) → RuleAt (variant cs (es ++ fs)) G v → RuleAt (variant cs es) G v
+  front_holds G v r = (r.0, record { count = r.1.count; held = r.1.held; equations = all_left (Holds G r.0) es fs r.1.equations }, r.2)
+
+  back_holds : (G : Structure) (v : Value) → RuleAt (variant cs (es ++ fs)) G v → RuleAt (variant cs fs) G v
+  back_holds G v r = (r.0, record { count = r.1.count; held = r.1.held; equations = all_right (Holds G r.0) es fs r.1.equations }, r.2)
+
+  module _ (A : Structure) (α : Value) (B : Structure) (β : Value) (a : IsLeastOf (RuleAt (variant cs es)) A α) (b : IsLeastOf (RuleAt (variant cs fs)) B β) where
+    -- whatever solves both takes both
+    takes : (G : Structure) (v : Value) → IsStructure G → IsValue G v → RuleAt (variant cs (es ++ fs)) G v → TakesBoth A α [] B β G v
+    takes G v s held r = record {
+      structure = s;
+      held = held;
+      left = a.least G v s held (front_holds G v r);
+      place = v;
+      there = refl;
+      right = b.least G v s held (back_holds G v r);
+    }
+
+    unifier_is_least : (U : Structure) (u : Value) → AreWithin (length cs) es → AreWithin (length cs) fs → IsUnifier A α [] B β U u → IsLeastOf (RuleAt (variant cs (es ++ fs))) U u
+    unifier_is_least U u we wf un =
+        let t = un.takes in
+        let same : t.place ≡ u = some_inj t.place u (sym t.there) in
+        let right : MapsInto B β U u = subst (λ x. MapsInto B β U x) same t.right in
+        record {
+          structure = t.structure;
+          held = t.held;
+          holds = both_hold U u (rule_carried cs es A α U u we a.holds t.left t.structure) (rule_carried cs fs B β U u wf b.holds right t.structure);
+          least = λ G v s held r. un.least G v (takes G v s held r);
+        }
+
+-- equations speak of slots that are there where those of both parts do
+within_both : (n : ℕ) (es fs : List Equation) → AreWithin n es → AreWithin n fs → AreWithin n (es ++ fs)
+within_both n [] fs h k = k
+within_both n (e ∷ es) fs h k = (h.0, within_both n es fs h.1 k)
+
+pub within_right : (n : ℕ) (es fs : List Equation) → AreWithin n (es ++ fs) → AreWithin n fs
+within_right n [] fs h = h
+within_right n (e ∷ es) fs h = within_right n es fs h.1
+
+-- the least values of both parts, and what they make
+pub least_of_both : (slots : ℕ) (es fs : List Equation) (left : List (List Feature)) (l : ℕ) (right : List (List Feature)) (r : ℕ) (nodes : List (List Feature)) (root : ℕ)
+    → AreWithin slots es → AreWithin slots fs → IsLeastAt slots es left l → IsLeastAt slots fs right r → IsUnified left l right (ref.New r) nodes root → IsLeastAt slots (es ++ fs) nodes root
+least_of_both slots es fs left l right r nodes root we wf a b made = record {
+  rooted = made.rooted;
+  least = λ cs count.
+      let w : AreWithin (length cs) es = subst (λ n. AreWithin n es) (sym count) we in
+      let x : AreWithin (length cs) fs = subst (λ n. AreWithin n fs) (sym count) wf in
+      let all = unifier_is_least cs es fs (own_nodes left) (Node l) (own_nodes right) (Node r) (a.least cs count) (b.least cs count) made.whole made.at w x made.unifier in
+      same_least cs (es ++ fs) (within_both (length cs) es fs w x) made.whole made.at (own_nodes nodes) (Node root) (own_structure nodes made.rooted.own) (own_is_value nodes (ref.New root) made.rooted.root) made.same all;
+}
+
+pub none_of_both : (slots : ℕ) (es fs : List Equation) (left : List (List Feature)) (l : ℕ) (right : List (List Feature)) (r : ℕ)
+    → IsLeastAt slots es left l → IsLeastAt slots fs right r → TakeNone left l right (ref.New r) → HasNone slots (es ++ fs)
+none_of_both slots es fs left l right r a b none = λ cs count G v s held x.
+    none G v (takes cs es fs (own_nodes left) (Node l) (own_nodes right) (Node r) (a.least cs count) (b.least cs count) G v s held x)
+
+pub none_of_back : (slots : ℕ) (es fs : List Equation) → HasNone slots fs → HasNone slots (es ++ fs)
+none_of_back slots es fs h = λ cs count G v s held x. h cs count G v s held (back_holds cs es fs G v x)
+
+-- ---- the parts of a list
+
+pub halves : {X : Type 0} (f : X → Equation) (xs front back : List X) (i : ℕ) → front ≡ take i xs → back ≡ drop i xs → map f xs ≡ map f front ++ map f back
+halves f xs front back i p q = all_of f xs i ∙ (ap (λ l. map f l ++ map f (drop i xs)) (sym p) ∙ ap (λ l. map f front ++ map f l) (sym q))
