@@ -5,7 +5,7 @@ use Rattle.patr_model.specs.Numbered.{places}
 use Rattle.patr_model.proofs.Maps.{some_inj}
 use Rattle.patr_chart.specs.declared.edge.Edge.{Edge}
 use Rattle.patr_chart.specs.Charted.{AreEdges}
-use Rattle.patr_chart.proofs.Places.{places_append}
+use Rattle.patr_model.proofs.Selected.{places_append}
 use Rattle.patr_chart.proofs.Trees.{get_below}
 use Rattle.patr_parse.specs.declared.analyses.Analysis.{Analysis}
 use Rattle.patr_parse.specs.Analyses.{edge_of}

@@ -20,7 +20,7 @@ use Rattle.patr_library.specs.declared.item.RuleItem.{RuleItem}
 use Rattle.patr_library.specs.declared.item.EntryItem.{EntryItem}
 use Rattle.patr_library.specs.Stored.{Stored, IsStored, IsRuleItem, IsEntryItem, Bounds, rules_of, root_of}
 use Rattle.patr_parse.specs.Found.{IsSoundEdge}
-use Rattle.patr_parse.specs.Joining.{IsRootBy}
+use Rattle.patr_parse.specs.Joining.{HasMother, IsRootBy}
 use Rattle.patr_parse.specs.Tasks.{ItemsAreHeld}
 use Rattle.patr_parse.specs.Begun.{begun_of, begun, leaf_of, leaf, IsAloneEdge}
 use Rattle.patr_parse.proofs.Counted.{counts_below}
@@ -66,16 +66,22 @@ module _ (s : Stored) (stored : IsStored s) (v : Shown) (base : IsShown s.shown)
     longer : (m : Value) → IsLeastValue g tree s.shown.structure m → IsLeastValue g tree v.structure m
     longer m l = subst (λ S. IsLeastValue g tree S m) (sym e.structure.1) (longer_keeps.least g tree s.shown.structure e.structure.0 m (subst IsStructure e.structure.1 sv.structure) l)
 
-    least_by : (b : Bool) → kind_passive kind ≡ b → (root : Value) → IsRootBy b v.structure new root → IsLeastValue g tree v.structure root
-    least_by true q root h =
+    -- where it has no daughters, the mother's slot is there, with the least value
+    complete : kind_passive kind ≡ true → (m : Value) × (arc v.structure new 0 ≡ Some m) × IsLeastValue g tree s.shown.structure m
+    complete q =
         let full : 1 ≡ length is.variant.categories = go (ltb 0 item.slots) refl q in
         let m = variant_steps.complete g item.rule item.variant i is.variant s.shown.structure old is.is (is.variant, is.is, full) is.least in
-        let leads : arc v.structure new 0 ≡ Some m.0 = ap (λ S. arc S new 0) e.structure.1 ∙ (ap (λ x. arc (s.shown.structure ++ e.structure.0) x 0) same_root ∙ (arc_of_longer s.shown.structure e.structure.0 old old_value 0 ∙ m.1)) in
-        subst (λ x. IsLeastValue g tree v.structure x) (some_inj m.0 root (sym leads ∙ h)) (longer m.0 m.2)
+        (m.0, ap (λ S. arc S new 0) e.structure.1 ∙ (ap (λ x. arc (s.shown.structure ++ e.structure.0) x 0) same_root ∙ (arc_of_longer s.shown.structure e.structure.0 old old_value 0 ∙ m.1)), m.2)
       where
         go : (b : Bool) → ltb 0 item.slots ≡ b → not b ≡ true → 1 ≡ length is.variant.categories
         go true q w = cc
         go false q w = (let slots = is.slots in omega (arith, slots, ltb-false 0 item.slots q))
+
+    pub begun_mother : kind_passive kind ≡ true → HasMother v.structure new
+    begun_mother q = let m = complete q in (m.0, m.1)
+
+    least_by : (b : Bool) → kind_passive kind ≡ b → (root : Value) → IsRootBy b v.structure new root → IsLeastValue g tree v.structure root
+    least_by true q root h = let m = complete q in subst (λ x. IsLeastValue g tree v.structure x) (some_inj m.0 root (sym m.1 ∙ h)) (longer m.0 m.2)
     least_by false q root h =
         let more : 1 < length is.variant.categories = go (ltb 0 item.slots) refl q in
         subst (λ x. IsLeastValue g tree v.structure x) (sym (h ∙ same_root)) (longer old (variant_steps.partial g item.rule item.variant i is.variant s.shown.structure old is.is (is.variant, is.is, more) is.least))

@@ -1,6 +1,6 @@
 -- The edge that two edges make.
 use Rattle.std.proofs.Common.{◌≡◌, ◌≢◌, inl, inr, ℕ, suc, ◌+◌, Bool, true, false, List, [], ◌∷◌, ◌++◌, length, append-nil, option_and_then, Some, None, slice_get, refl, sym, ap, ◌∙◌, arith, subst}
-use Rattle.patr_model.specs.Structure.{Value, Node, Structure, arc, at, IsReached}
+use Rattle.patr_model.specs.Structure.{Value, Atom, Node, Structure, arc, at, IsReached}
 use Rattle.patr_model.specs.Subsumption.{TakesBoth, IsUnifier}
 use Rattle.patr_model.specs.Settled.{Images, Keeps}
 use Rattle.patr_model.specs.Derivation.{Rules, Derivation, Extend, seen, size, IsPartial, IsComplete}
@@ -21,7 +21,7 @@ use Rattle.patr_chart.specs.Laws.{IsOfKind, KindFits, IsJudged}
 use Rattle.patr_chart.proofs.Shown.{is_tree, is_judged, next_kind, next_fits, kind_complete, kind_partial}
 use Rattle.patr_library.specs.Stored.{Stored, Bounds}
 use Rattle.patr_parse.specs.Found.{IsRootOf, IsOfItem, IsSoundEdge, daughters}
-use Rattle.patr_parse.specs.Joining.{IsRootBy}
+use Rattle.patr_parse.specs.Joining.{HasMother, IsRootBy}
 use Rattle.patr_parse.specs.Tasks.{ArePartners, IsReady}
 use Rattle.patr_parse.proofs.Longer.{unifier_sides, keeps_longer}
 use Rattle.patr_parse.proofs.Counted.{counts_below}
@@ -152,6 +152,16 @@ module _ (g : Rules) (s : Stored) (v : Shown) (limit words : ℕ) (es : List Edg
           let m = unifier_of_complete g (tree es a) (tree es p) part whole S l S r left.value right.value U u (subst (λ i. IsUnifier S l (i ∷ []) S r U u) one un) (kind_complete g t k is_kind fits q) in
           of_least m.0 m.2
       go false q = of_least u (least_by false q U u u un refl)
+
+  -- where no daughter is missing, the unifier has a mother's slot
+  pub mother_there : (U : Structure) (u : Value) → IsUnifier S l (slot ∷ []) S r U u → kind_passive k ≡ true → HasMother U u
+  mother_there U u un q =
+      let m = unifier_of_complete g (tree es a) (tree es p) part whole S l S r left.value right.value U u (subst (λ i. IsUnifier S l (i ∷ []) S r U u) one un) (kind_complete g t k is_kind fits q) in
+      (m.0, m.1)
+
+  -- an active edge stands for a node
+  pub stands_for_node : (c : ℕ) → l ≡ Atom c → ⊥
+  stands_for_node c e = path_there (ap (λ x. at S x (slot ∷ [])) e)
 
   pub sum_of_sizes : x.size + y.size ≡ size t
   sum_of_sizes = let m = left.sized in let n = right.sized in omega (arith, m, n)

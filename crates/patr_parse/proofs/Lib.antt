@@ -1,6 +1,7 @@
 pub mod Longer
 pub mod Counted
 pub mod Reached
+pub mod Room
 pub mod Numbers
 pub mod Growing
 pub mod Joins

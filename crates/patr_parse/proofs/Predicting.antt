@@ -2,8 +2,8 @@
 use Rattle.std.proofs.Common.{◌≡◌, ◌⊎◌, inl, inr, ℕ, zero, suc, ◌+◌, ◌<◌, ◌≤◌, Bool, true, false, cond, ◌&&◌, nat_eq, List, [], ◌∷◌, ◌++◌, length, map, get_or, Option, Some, None, slice_get, option_and_then, refl, sym, ap, ◌∙◌, arith, subst, length-append, eqb-true, eq-eqb, nat_lt, ltb-true, ltb-false}
 use Rattle.std.proofs.lemmas.List.{get_or_append_left}
 use Rattle.std.proofs.lemmas.Option.{slice_get_within}
-use Rattle.patr_model.specs.Structure.{Value, Atom, Structure, arc, at}
-use Rattle.patr_model.specs.Category.{atom_of, atom_at}
+use Rattle.patr_model.specs.Structure.{Value, Atom, Node, Structure, at}
+use Rattle.patr_model.specs.Category.{atom_of}
 use Rattle.patr_model.specs.Derivation as derivation
 use Rattle.patr_model.specs.Derivation.{Rules, RuleVariant, EntryVariant, Derivation, Leaf, Begin, Extend, rule_variant, entry_variant, root_rule, end, IsPartial, IsComplete}
 use Rattle.patr_model.specs.Solution.{IsSolvable, IsLeastValue}
@@ -17,10 +17,7 @@ use Rattle.patr_model.specs.Renaming.{Each}
 use Rattle.patr_model.specs.Rounds.{IsNoPair, IsPredicted}
 use Rattle.patr_model.proofs.Maps.{some_inj, and_then_some}
 use Rattle.patr_model.proofs.Rounds.{in_left, in_right, in_either}
-use Rattle.patr_model.proofs.Prediction.{atoms_stay, slot_of_least}
-use Rattle.patr_model.proofs.Categories.{arc_into}
-use Rattle.patr_model.proofs.PlainSolved.{slot_has}
-use Rattle.patr_model.proofs.PlainChart.{follows, plainly}
+use Rattle.patr_model.proofs.PlainChart.{follows, plainly, slot_atom, slot_is}
 use Rattle.patr_model.proofs.StatedCategories.{are_built}
 use Rattle.patr_arena.specs.Shown.{Shown, value_of}
 use Rattle.patr_chart.specs.declared.edge.Edge.{Edge}
@@ -47,37 +44,18 @@ module _ (s : Stored) where
   pub has_categories : HasCategories (rules_of s) keys.cat
   has_categories = (are_built number keys (grammar_of s.grammar) (entries_of s.lexicon)).categories
 
-  -- the atom at a slot of a partial tree's least value
-  slot_atom : (t : Derivation) → IsPartial (rules_of s) t → (A : Structure) (v : Value) → IsLeastValue (rules_of s) t A v → (k c : ℕ) → slot_category (rules_of s) t k ≡ Some c
-      → (x : Value) × (arc A v k ≡ Some x) × (atom_at A x (keys.cat ∷ []) ≡ Some c)
-  slot_atom t part A v least k c h =
-      let l = least.solution in
-      let r = and_then_some (root_rule (rules_of s) t) (λ r. slice_get r.categories k) c h in
-      let has = slot_has (rules_of s) keys.cat has_categories t l.0 l.2.slots l.2.solves r.0 r.1 k c r.2 in
-      let at_slot = l.2.value.partial part k has.0 has.1 in
-      let x = slot_of_least (rules_of s) t part A v least l.0 l.2.slots l.2.structure l.2.solves k has.0 has.1 in
-      (x.0, x.1, atoms_stay l.0 has.0 A x.0 (arc_into l.0 l.1 A v l.3.0 k has.0 x.0 at_slot x.1) (keys.cat ∷ []) c (ap (option_and_then atom_of) has.2))
-
-  -- there is a category at the next slot
-  next_is : (t : Derivation) → IsPartial (rules_of s) t → (c : ℕ) × (next_of (rules_of s) t ≡ Some c)
-  next_is t part =
-      let c = there part.0.categories (suc (derivation.seen t)) part.2 in
-      (c.0, ap (option_and_then (λ r. slice_get r.categories (suc (derivation.seen t)))) part.1 ∙ c.1)
+  -- the category of the next daughter stands at `cat` of the next slot
+  pub next_there : (t : Derivation) → IsPartial (rules_of s) t → (A : Structure) (v : Value) → IsLeastValue (rules_of s) t A v
+      → (c : ℕ) × (next_of (rules_of s) t ≡ Some c) × (at A v (suc (derivation.seen t) ∷ keys.cat ∷ []) ≡ Some (Atom c))
+  next_there t part A v least =
+      let d = slot_is (rules_of s) keys.cat has_categories t part in
+      let x = slot_atom (rules_of s) keys.cat has_categories t part A v least (suc (derivation.seen t)) d.0 d.1 in
+      let y = and_then_some (at A x.0 (keys.cat ∷ [])) atom_of d.0 x.2 in
+      (d.0, d.1, ap (λ o. option_and_then (λ z. at A z (keys.cat ∷ [])) o) x.1 ∙ (y.1 ∙ ap (λ z. Some z) (atom_is y.0 d.0 y.2)))
     where
-      there : (cs : List ℕ) (j : ℕ) → j < length cs → (c : ℕ) × (slice_get cs j ≡ Some c)
-      there [] j h = absurd (omega (arith, h))
-      there (d ∷ cs) zero h = (d, refl)
-      there (d ∷ cs) (suc j) h = there cs j (omega (arith, h))
-
-  -- the atom that stands at `cat` of the next slot is the category
-  pub next_found : (t : Derivation) → IsPartial (rules_of s) t → (A : Structure) (v : Value) → IsLeastValue (rules_of s) t A v → (c : ℕ) → at A v (suc (derivation.seen t) ∷ keys.cat ∷ []) ≡ Some (Atom c)
-      → next_of (rules_of s) t ≡ Some c
-  next_found t part A v least c h =
-      let d = next_is t part in
-      let x = slot_atom t part A v least (suc (derivation.seen t)) d.0 d.1 in
-      let found : at A x.0 (keys.cat ∷ []) ≡ Some (Atom c) = sym (ap (λ o. option_and_then (λ y. at A y (keys.cat ∷ [])) o) x.1) ∙ h in
-      let same : d.0 ≡ c = some_inj d.0 c (sym x.2 ∙ ap (option_and_then atom_of) found) in
-      d.1 ∙ ap (λ n. Some n) same
+      atom_is : (z : Value) (c : ℕ) → atom_of z ≡ Some c → z ≡ Atom c
+      atom_is (Atom b) c h = ap Atom (some_inj b c h)
+      atom_is (Node k) c h = cc
 
   pub none_next : (t : Derivation) → IsComplete (rules_of s) t → next_of (rules_of s) t ≡ None
   none_next (Leaf e k i j) full = refl

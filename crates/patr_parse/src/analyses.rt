@@ -12,14 +12,12 @@ ghost use Rattle.patr_model.specs.Solved.{solved};
 ghost use Rattle.patr_parse.specs.Analyses.{AreAll, HasKey, RootsAreHeld, edge_of, has_category, is_whole};
 ghost use Rattle.patr_parse.specs.Found.{AreSound};
 
+use crate::category::CAT;
 use patr_arena::{Value, View, resolve_path};
 use patr_chart::{Chart, Edge, KeyItem};
 use patr_library::Library;
 use patr_text::{Id, Memory};
 use std::alloc::Global;
-
-/// The number that each table gives to `cat`.
-const CAT: Id = Id(33);
 
 // An analysis: its key, and the number of its edge.
 #[derive(Drop, PartialEq, Eq, PartialOrd, Ord)]

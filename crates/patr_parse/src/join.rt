@@ -1,6 +1,6 @@
 //! The edge that two edges make: by unification.
-ghost use Rattle.std.specs.Prelude.{◌≡◌, ◌≢◌, ◌+◌, ◌≤◌, ◌∷◌, [], true, false, None, length, IfOk, IfSome};
-ghost use Rattle.patr_model.specs.Structure.{Node, Structure, at};
+ghost use Rattle.std.specs.Prelude.{◌≡◌, ◌≢◌, ◌+◌, ◌≤◌, ◌∷◌, [], true, false, None, Some, length, IfOk};
+ghost use Rattle.patr_model.specs.Structure.{Node, Structure, arc, at};
 ghost use Rattle.patr_model.specs.Subsumption.{TakesBoth};
 ghost use Rattle.patr_model.specs.Derivation.{Extend};
 ghost use Rattle.patr_arena.specs.Blocks.{Extends, OldIsHeld, with_block};
@@ -12,14 +12,14 @@ ghost use Rattle.patr_chart.specs.Edges.{kind_passive};
 ghost use Rattle.patr_chart.specs.Charted.{IsNext, tree};
 ghost use Rattle.patr_library.specs.Stored.{rules_of};
 ghost use Rattle.patr_parse.specs.Found.{daughters};
-ghost use Rattle.patr_parse.specs.Joining.{HasJoined, IsRootBy};
+ghost use Rattle.patr_parse.specs.Joining.{AreWithin, HasJoined, HasMother, IsRootBy};
 ghost use Rattle.patr_parse.specs.Tasks.{ArePartners, IsReady};
 
 use patr_arena::{Addr, Block, Id, Memory, Nodes, Ref, SentenceArena, Value, resolve_path};
 use patr_chart::{Back, Chart, Edge, EdgeKind};
 use patr_library::Library;
 use patr_scratch::Scratch;
-use patr_unify::{Decision, Steps, copy, decide, reserve_for};
+use patr_unify::{Decision, Steps, copy, decide};
 use std::alloc::{AllocError, Global};
 use std::sync::ledger::Ledger;
 
@@ -41,44 +41,73 @@ pub(crate) enum Joined {
     Made(Edge),
 }
 
-/// The rule with one more daughter, and the slot of that daughter. None where no daughter is missing.
-pub(crate) fn next_kind(kind: EdgeKind) -> Option<(EdgeKind, Id)>
-    ensures { IfSome result (λ next. IsNext kind next.0 × (next.1.0 ≡ daughters next.0)) }
+/// How many nodes two values reach at most, and how many arcs these have.
+#[derive(Clone, Copy)]
+struct Reach {
+    nodes: u64,
+    arcs: u64,
+}
+
+/// Whether no daughter is missing.
+fn is_passive(kind: EdgeKind) -> bool
+    ensures { result ≡ kind_passive kind }
 {
     match kind {
-        EdgeKind::Rule {
-            rule,
-            variant,
-            item,
-            seen,
-            slots,
-        } if seen < slots => {
-            let kind = EdgeKind::Rule {
-                rule,
-                variant,
-                item,
-                seen: seen + 1,
-                slots,
-            };
-            Some((kind, Id(seen + 1)))
-        }
-        _ => None,
+        EdgeKind::Entry { .. } => true,
+        EdgeKind::Rule { seen, slots, .. } => seen >= slots,
     }
 }
 
-/// What stands for an edge of this kind: the node of the slots, or, where no daughter is missing, the mother's slot.
-pub(crate) fn root_for<N: Nodes>(nodes: &N, kind: EdgeKind, slots: Value) -> Result<Value, Memory>
-    requires held { ValueIsHeld (N.shown nodes.now) slots }
-    ensures held { IfOk result (λ root. ValueIsHeld (N.shown nodes.now) root) }
-    ensures root { IfOk result (λ root. IsRootBy (kind_passive kind) (N.shown nodes.now).structure (value_of (N.shown nodes.now) slots) (value_of (N.shown nodes.now) root)) }
+/// The rule with one more daughter, and the slot of that daughter. Condition: a daughter is missing.
+pub(crate) fn next_kind(kind: EdgeKind) -> (EdgeKind, Id)
+    requires { kind_passive kind ≡ false }
+    ensures { IsNext kind result.0 × (result.1.0 ≡ daughters result.0) }
 {
-    match kind {
-        EdgeKind::Rule {
-            seen,
-            slots: all,
-            ..
-        } if seen < all => Ok(slots),
-        _ => resolve_path(nodes, slots, &[Id(0)]).ok_or(AllocError),
+    let EdgeKind::Rule {
+        rule,
+        variant,
+        item,
+        seen,
+        slots,
+    } = kind
+    else {
+        unreachable!()
+    };
+    let kind = EdgeKind::Rule {
+        rule,
+        variant,
+        item,
+        seen: seen + 1,
+        slots,
+    };
+    (kind, Id(seen + 1))
+}
+
+/// The value of the mother's slot. Condition: it is there.
+fn mother_of<N: Nodes>(nodes: &N, slots: Value) -> Value
+    requires held { ValueIsHeld (N.shown nodes.now) slots }
+    requires there { HasMother (N.shown nodes.now).structure (value_of (N.shown nodes.now) slots) }
+    ensures held { ValueIsHeld (N.shown nodes.now) result }
+    ensures mother { arc (N.shown nodes.now).structure (value_of (N.shown nodes.now) slots) 0 ≡ Some (value_of (N.shown nodes.now) result) }
+{
+    let Some(mother) = resolve_path(nodes, slots, &[Id(0)]) else {
+        unreachable!()
+    };
+    mother
+}
+
+/// What stands for an edge of this kind: the node of the slots, or, where no daughter is missing, the mother's slot,
+/// which is there then.
+pub(crate) fn root_for<N: Nodes>(nodes: &N, kind: EdgeKind, slots: Value) -> Value
+    requires held { ValueIsHeld (N.shown nodes.now) slots }
+    requires mother { kind_passive kind ≡ true → HasMother (N.shown nodes.now).structure (value_of (N.shown nodes.now) slots) }
+    ensures held { ValueIsHeld (N.shown nodes.now) result }
+    ensures root { IsRootBy (kind_passive kind) (N.shown nodes.now).structure (value_of (N.shown nodes.now) slots) (value_of (N.shown nodes.now) result) }
+{
+    if is_passive(kind) {
+        mother_of(nodes, slots)
+    } else {
+        slots
     }
 }
 
@@ -91,6 +120,7 @@ fn place(
 ) -> Result<Value, Memory>
     requires old { OldIsHeld (sentence_of arena.old) block }
     requires fits { Fits (sentence_of arena.old) (length block) root }
+    requires mother { kind_passive kind ≡ true → HasMother (with_block (sentence_of arena.old) block).structure (made_of (sentence_of arena.old) root) }
     ensures pushed { IfOk result (λ _. sentence_of arena.new ≡ with_block (sentence_of arena.old) block) }
     ensures held { IfOk result (λ placed. ValueIsHeld (sentence_of arena.new) placed) }
     ensures root { IfOk result (λ placed. IsRootBy (kind_passive kind) (sentence_of arena.new).structure (made_of (sentence_of arena.old) root) (value_of (sentence_of arena.new) placed)) }
@@ -99,27 +129,39 @@ fn place(
         return Err(AllocError);
     };
     let slots = arena.resolve(number, root);
-    root_for(arena, kind, slots)
+    Ok(root_for(arena, kind, slots))
+}
+
+/// How much the roots of two edges reach at most, what both reach counted twice.
+fn reach_of(first: &Edge, second: &Edge) -> Result<Reach, Memory>
+    ensures { IfOk result (λ reach. (reach.nodes ≡ first.now.nodes + second.now.nodes) × (reach.arcs ≡ first.now.arcs + second.now.arcs)) }
+{
+    let nodes = first.nodes.checked_add(second.nodes).ok_or(AllocError)?;
+    let arcs = first.arcs.checked_add(second.arcs).ok_or(AllocError)?;
+    Ok(Reach { nodes, arcs })
 }
 
 /// Whether the value at this slot of a node has a unifier with another value. Then the marks in the scratch stand for it.
+///
+/// Before it decides, it takes the room for what both reach where the scratch has less: so most calls take no memory.
 fn has_unifier<L: Ledger>(
-    alloc: Global,
     arena: &SentenceArena<'_>,
     left: Addr,
     slot: Id,
     right: Value,
+    reach: Reach,
     scratch: &mut Scratch,
     steps: &mut Steps<L>,
 ) -> Result<bool, Memory>
     requires left { IsHeld (sentence_of arena.now) left.block left.offset }
     requires right { ValueIsHeld (sentence_of arena.now) right }
     requires slot { at (sentence_of arena.now).structure (Node (number_of (sentence_of arena.now) left.block left.offset)) (slot.0 ∷ []) ≢ None }
+    requires within { AreWithin (sentence_of arena.now) (Node (number_of (sentence_of arena.now) left.block left.offset)) (value_of (sentence_of arena.now) right) reach.nodes reach.arcs }
     ensures some { IfOk result (λ found. found ≡ true → IsSettledFor (sentence_of arena.now) scratch.new (number_of (sentence_of arena.now) left.block left.offset) (slot.0 ∷ []) (value_of (sentence_of arena.now) right)) }
     ensures none { IfOk result (λ found. found ≡ false → (G : Structure) (g : _) → TakesBoth (sentence_of arena.now).structure (Node (number_of (sentence_of arena.now) left.block left.offset)) (slot.0 ∷ []) (sentence_of arena.now).structure (value_of (sentence_of arena.now) right) G g → ⊥) }
     ensures steps { IfOk result (λ found. steps.new ≡ steps.old + 1) }
 {
-    reserve_for(alloc, arena, left, right, scratch)?;
+    scratch.reserve(arena.count(), reach.nodes, reach.arcs)?;
     match decide(arena, left, &[slot], right, scratch, steps) {
         Decision::Solvable => Ok(true),
         Decision::NoUnifier => Ok(false),
@@ -149,18 +191,17 @@ pub(crate) fn join<L: Ledger>(
 {
     let first = *chart.edge(active);
     let second = *chart.edge(passive);
-    let Some((kind, slot)) = next_kind(first.kind) else {
-        return Err(AllocError);
-    };
+    let (kind, slot) = next_kind(first.kind);
     let Value::Node(left) = first.root else {
-        return Err(AllocError);
+        unreachable!()
     };
+    let reach = reach_of(&first, &second)?;
     if !has_unifier(
-        alloc,
         &work.arena,
         left,
         slot,
         second.root,
+        reach,
         &mut work.scratch,
         steps,
     )? {

@@ -2,6 +2,7 @@
 #![tactic(auto)]
 
 mod analyses;
+mod category;
 mod closing;
 mod join;
 mod parse;
@@ -15,3 +16,4 @@ pub use parse::{ParseCause, parse_alone};
 pub use parsed::Parsed;
 pub use patr_pool::{Gate, OpenGate};
 pub use patr_text::{Fault, Memory};
+pub use sentence::words_of;

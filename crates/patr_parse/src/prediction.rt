@@ -15,6 +15,7 @@ ghost use Rattle.patr_parse.specs.Standing.{Stands};
 ghost use Rattle.patr_parse.specs.Begun.{begun, leaf, leaves_at, leaves_from, begun_at, begun_unless, begun_by, next_of, is_marked, HasMark, HasMarkOf, IsAloneEdge, ArePushed};
 ghost use Rattle.patr_parse.specs.Predicting.{IsPrediction};
 
+use crate::category::CAT;
 use crate::join::{next_kind, root_for};
 use patr_arena::{Memory, SentenceArena, Value, resolve_path};
 use patr_chart::{Chart, Edge, EdgeKind};
@@ -22,9 +23,6 @@ use patr_library::Library;
 use patr_text::Id;
 use std::alloc::{AllocError, Global};
 use std::collections::HashSet;
-
-/// The number of the attribute of categories.
-const CATEGORY: Id = Id(33);
 
 /// A category whose rules stand at a position.
 #[derive(Clone, Copy, PartialEq, Eq, Hash)]
@@ -58,16 +56,11 @@ fn push_within(chart: &mut Chart, edge: Edge, limit: u32) -> Result<bool, Memory
 }
 
 /// A rule without daughters.
-fn begin_edge(
-    library: &Library,
-    arena: &SentenceArena<'_>,
-    number: u32,
-    at: u32,
-) -> Result<Edge, Memory>
+fn begin_edge(library: &Library, arena: &SentenceArena<'_>, number: u32, at: u32) -> Edge
     requires number { number < length library.now.rules }
     requires base { IsOver library.now (sentence_of arena.now) }
-    ensures edge { IfOk result (λ edge. IsAloneEdge (rules_of library.now) library.now (sentence_of arena.now) (begun library.now at number) edge) }
-    ensures place { IfOk result (λ edge. (edge.start ≡ at) × (edge.end ≡ at)) }
+    ensures edge { IsAloneEdge (rules_of library.now) library.now (sentence_of arena.now) (begun library.now at number) result }
+    ensures place { (result.start ≡ at) × (result.end ≡ at) }
 {
     let item = library.rules()[number as usize];
     let kind = EdgeKind::Rule {
@@ -77,8 +70,8 @@ fn begin_edge(
         seen: 0,
         slots: item.slots,
     };
-    let root = root_for(arena, kind, Value::Node(item.root))?;
-    Ok(Edge {
+    let root = root_for(arena, kind, Value::Node(item.root));
+    Edge {
         kind,
         start: at,
         end: at,
@@ -87,7 +80,7 @@ fn begin_edge(
         nodes: item.nodes,
         arcs: item.arcs,
         size: 1,
-    })
+    }
 }
 
 /// An entry over the word at `at`.
@@ -130,8 +123,7 @@ fn begin_rules(
     ensures words { IfOk result (λ done. chart.new.words ≡ chart.old.words) }
 {
     for number in library.rules_of(mother) {
-        let edge = begin_edge(library, arena, *number, at)?;
-        if !push_within(chart, edge, limit)? {
+        if !push_within(chart, begin_edge(library, arena, *number, at), limit)? {
             return Ok(false);
         }
     }
@@ -215,27 +207,23 @@ fn expect(
 }
 
 /// The category of the next daughter of edge k; none where no daughter is missing.
-fn next_category(
-    library: &Library,
-    arena: &SentenceArena<'_>,
-    chart: &Chart,
-    k: u32,
-) -> Result<Option<Id>, Memory>
+fn next_category(library: &Library, arena: &SentenceArena<'_>, chart: &Chart, k: u32) -> Option<Id>
     requires k { k < length chart.now.edges }
     requires ready { (limit : ℕ) × IsReady (rules_of library.now) library.now (sentence_of arena.now) limit chart.now.edges }
-    ensures { IfOk result (λ next. option_map (λ (c : Id). c.0) next ≡ next_of (rules_of library.now) (tree chart.now.edges k)) }
+    ensures { option_map (λ (c : Id). c.0) result ≡ next_of (rules_of library.now) (tree chart.now.edges k) }
 {
     let edge = chart.edge(k);
     if edge.is_passive() {
-        return Ok(None);
+        return None;
     }
-    let Some((_, slot)) = next_kind(edge.kind) else {
-        return Err(AllocError);
+    let (_, slot) = next_kind(edge.kind);
+    let Some(found) = resolve_path(arena, edge.root, &[slot, CAT]) else {
+        unreachable!()
     };
-    match resolve_path(arena, edge.root, &[slot, CATEGORY]) {
-        Some(Value::Atom(category)) => Ok(Some(category)),
-        _ => Err(AllocError),
-    }
+    let Value::Atom(category) = found else {
+        unreachable!()
+    };
+    Some(category)
 }
 
 /// Adds what edge k predicts. False where there would be more edges than the limit.
@@ -255,7 +243,7 @@ fn follow(
     ensures marked { IfOk result (λ done. HasMarkOf marks.old.keys marks.new.keys (next_of (rules_of library.now) (tree chart.old.edges k)) (end (tree chart.old.edges k))) }
     ensures words { IfOk result (λ done. chart.new.words ≡ chart.old.words) }
 {
-    let Some(category) = next_category(library, arena, chart, k)? else {
+    let Some(category) = next_category(library, arena, chart, k) else {
         return Ok(true);
     };
     let at = chart.edge(k).end;

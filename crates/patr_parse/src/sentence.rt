@@ -25,8 +25,8 @@ fn push_words<'a>(words: &mut Vec<&'a str>, text: &'a str) -> Result<(), Memory>
     Ok(())
 }
 
-// The words of a sentence, cut at spaces and tabs.
-fn words_of<'a>(alloc: Global, sentence: &'a str) -> Result<Vec<&'a str>, Memory>
+/// The words of a sentence, cut at spaces and tabs. Fails for want of memory alone.
+pub fn words_of<'a>(alloc: Global, sentence: &'a str) -> Result<Vec<&'a str>, Memory>
     ensures { IfOk result (λ words. map (λ w. w.now) words.items ≡ words_of sentence.now) }
 {
     let mut words = Vec::new(alloc);

@@ -1,8 +1,7 @@
-use Rattle.std.proofs.Common.{◌≡◌, ◌≤◌, ◌+◌, ℕ, length, map, refl, sym, ap, ◌∙◌, subst, arith}
+use Rattle.std.proofs.Common.{◌≡◌, length, refl, sym, ap, ◌∙◌, subst, arith}
 use Rattle.std.proofs.lemmas.List.{length-map}
 use Rattle.patr_text.specs.declared.symbols.Id.{Id}
 use Rattle.patr_model.specs.Session.{words_of}
-use Rattle.patr_arena.specs.Arenas.{shown_of}
 use Rattle.patr_arena.specs.Blocks.{Extends}
 use Rattle.patr_arena.specs.Paths.{ids}
 use Rattle.patr_arena.specs.Sentences.{sentence_of}

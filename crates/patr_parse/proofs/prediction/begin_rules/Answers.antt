@@ -15,8 +15,8 @@ begin_edge-requires-clause-number c =
 
 pub push_within-requires : goal.push_within-requires
 push_within-requires c =
-    let p = c.in_ok-edge.ensures.place in
-    after_alone (rules_of c.args.library.now) c.args.library.now (sentence_of c.args.arena.now) _ c.in_ok-edge.edge c.loop-number.chart.words c.loop-number.chart.edges c.in_ok-edge.ensures.edge
+    let p = c.begin_edge.ensures.place in
+    after_alone (rules_of c.args.library.now) c.args.library.now (sentence_of c.args.arena.now) _ c.begin_edge.result c.loop-number.chart.words c.loop-number.chart.edges c.begin_edge.ensures.edge
     (omega (arith, p.0, p.1)) (omega (arith, p.1, c.requires.at, c.loop-number.invariant.words))
 
 pub returns-then-not-branch-clause-pushed : goal.returns-then-not-branch-clause-pushed
@@ -40,7 +40,7 @@ loop-number-preserved c =
     let done : c.in_ok-push_within.field-0 ≡ true = search rules in
     let pushed = c.in_ok-push_within.ensures.pushed done in
     record {
-      pushed = behind_next r s v (begun s c.args.at) ns c.loop-number.number-index (omega arith) c.args.chart.now.edges c.loop-number.chart.edges c.push_within.new.chart.edges c.in_ok-edge.edge c.loop-number.invariant.pushed pushed.0 c.in_ok-edge.ensures.edge;
+      pushed = behind_next r s v (begun s c.args.at) ns c.loop-number.number-index (omega arith) c.args.chart.now.edges c.loop-number.chart.edges c.push_within.new.chart.edges c.begin_edge.result c.loop-number.invariant.pushed pushed.0 c.begin_edge.ensures.edge;
       few = pushed.1;
       words = c.in_ok-push_within.ensures.words ∙ c.loop-number.invariant.words;
     }

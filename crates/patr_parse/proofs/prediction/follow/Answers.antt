@@ -15,13 +15,13 @@ returns-in_default-clause-pushed c =
     let v = sentence_of c.args.arena.now in
     let es = c.args.chart.now.edges in
     let t = tree es c.args.k in
-    let none : None ≡ next_of r t = sym (ap (λ o. option_map (λ (x : Id). x.0) o) c.in_default.is) ∙ c.in_ok-category.ensures in
+    let none : None ≡ next_of r t = sym (ap (λ o. option_map (λ (x : Id). x.0) o) c.in_default.is) ∙ c.next_category.ensures in
     subst (λ (o : Option ℕ). ArePushed r s v c.args.limit es (begun_by c.args.marks.now.keys s o (end t)) es true) none ([], sym (append-nil es), tt, c.requires.few)
 
 pub returns-in_default-clause-marked : goal.returns-in_default-clause-marked
 returns-in_default-clause-marked c =
     let t = tree c.args.chart.now.edges c.args.k in
-    let none : None ≡ next_of (rules_of c.args.library.now) t = sym (ap (λ o. option_map (λ (x : Id). x.0) o) c.in_default.is) ∙ c.in_ok-category.ensures in
+    let none : None ≡ next_of (rules_of c.args.library.now) t = sym (ap (λ o. option_map (λ (x : Id). x.0) o) c.in_default.is) ∙ c.next_category.ensures in
     subst (λ (o : Option ℕ). HasMarkOf c.args.marks.now.keys c.args.marks.now.keys o (end t)) none refl
 
 pub expect-requires-clause-at : goal.expect-requires-clause-at
@@ -35,7 +35,7 @@ returns-clause-pushed c =
     let es = c.args.chart.now.edges in
     let t = tree es c.args.k in
     let marks = c.args.marks.now.keys in
-    let some : Some c.in-Some.category.0 ≡ next_of r t = sym (ap (λ o. option_map (λ (x : Id). x.0) o) c.in-Some.is) ∙ c.in_ok-category.ensures in
+    let some : Some c.in-Some.category.0 ≡ next_of r t = sym (ap (λ o. option_map (λ (x : Id). x.0) o) c.in-Some.is) ∙ c.next_category.ensures in
     subst (λ (o : Option ℕ). IfOk c.expect.result (λ done. ArePushed r s v c.args.limit es (begun_by marks s o (end t)) c.expect.new.chart.edges done)) some
     (subst (λ (i : ℕ). IfOk c.expect.result (λ done. ArePushed r s v c.args.limit es (begun_by marks s (Some c.in-Some.category.0) i) c.expect.new.chart.edges done)) (sym c.edge.ensures.derived.1) c.expect.ensures.pushed)
 
@@ -44,6 +44,6 @@ returns-clause-marked c =
     let r = rules_of c.args.library.now in
     let t = tree c.args.chart.now.edges c.args.k in
     let marks = c.args.marks.now.keys in
-    let some : Some c.in-Some.category.0 ≡ next_of r t = sym (ap (λ o. option_map (λ (x : Id). x.0) o) c.in-Some.is) ∙ c.in_ok-category.ensures in
+    let some : Some c.in-Some.category.0 ≡ next_of r t = sym (ap (λ o. option_map (λ (x : Id). x.0) o) c.in-Some.is) ∙ c.next_category.ensures in
     subst (λ (o : Option ℕ). IfOk c.expect.result (λ _. HasMarkOf marks c.expect.new.marks.keys o (end t))) some
     (subst (λ (i : ℕ). IfOk c.expect.result (λ _. HasMarkOf marks c.expect.new.marks.keys (Some c.in-Some.category.0) i)) (sym c.edge.ensures.derived.1) c.expect.ensures.marked)

@@ -1,7 +1,9 @@
-use Rattle.std.proofs.Common.{Some, sym, ap, ◌∙◌}
-use Rattle.patr_arena.specs.Paths.{found_of}
+use Rattle.std.proofs.Common.{Some, sym, ap, ◌∙◌, subst}
 use Rattle.patr_arena.specs.Sentences.{sentence_of}
-use Rattle.patr_parse.proofs.NextCategories.{passive_none, category_found}
+use Rattle.patr_chart.specs.Charted.{tree}
+use Rattle.patr_library.specs.Stored.{rules_of}
+use Rattle.patr_parse.specs.Begun.{next_of}
+use Rattle.patr_parse.proofs.NextCategories.{HasFound, passive_none, found_category}
 use Rattle.patr_parse.proofs.prediction.next_category.Goals as goal
 
 pub returns-then-is_passive : goal.returns-then-is_passive
@@ -12,10 +14,23 @@ returns-then-is_passive c =
 pub resolve_path-requires : goal.resolve_path-requires
 resolve_path-requires c = (c.requires.ready.1.sound c.args.k c.edge-edge.result.now c.edge-edge.ensures.there).held
 
-pub returns-in-Some-Atom : goal.returns-in-Some-Atom
-returns-in-Some-Atom c =
+pub unreachable-requires : goal.unreachable-requires
+unreachable-requires c =
     let v = sentence_of c.args.arena.now in
-    let next = c.in-Some.ensures in
-    category_found c.args.library.now v c.requires.ready.0 c.args.chart.now.words c.args.chart.now.edges c.edge-edge.ensures.edges c.requires.ready.1 c.args.k c.edge-edge.result.now c.edge-edge.ensures.there
-    (sym c.is_passive.ensures ∙ c.if-is_passive.false) c.in-Some.field-0-0 next.0 c.in-Some.slot.0 next.1 c.in-Some-Atom.category.0
-    (sym c.resolve_path.ensures.same ∙ ap (λ o. found_of v o) (c.in-Some-Atom.is ∙ ap (λ y. Some y) c.in-Some-Atom.field-0-is))
+    subst (λ o. HasFound o (next_of (rules_of c.args.library.now) (tree c.args.chart.now.edges c.args.k))) (c.in_default.is)
+    (found_category c.args.library.now v c.requires.ready.0 c.args.chart.now.words c.args.chart.now.edges c.edge-edge.ensures.edges c.requires.ready.1 c.args.k c.edge-edge.result.now c.edge-edge.ensures.there
+    (sym c.is_passive.ensures ∙ c.if-is_passive.false) c.next_kind.result.0 c.next_kind.ensures.0 c.next_kind.result.1.0 c.next_kind.ensures.1 c.resolve_path.result c.resolve_path.ensures.same)
+
+pub unreachable-requires-in_default-found : goal.unreachable-requires-in_default-found
+unreachable-requires-in_default-found c =
+    let v = sentence_of c.args.arena.now in
+    subst (λ o. HasFound o (next_of (rules_of c.args.library.now) (tree c.args.chart.now.edges c.args.k))) (c.in-Some.is ∙ ap (λ x. Some x) c.in_default-found.is)
+    (found_category c.args.library.now v c.requires.ready.0 c.args.chart.now.words c.args.chart.now.edges c.edge-edge.ensures.edges c.requires.ready.1 c.args.k c.edge-edge.result.now c.edge-edge.ensures.there
+    (sym c.is_passive.ensures ∙ c.if-is_passive.false) c.next_kind.result.0 c.next_kind.ensures.0 c.next_kind.result.1.0 c.next_kind.ensures.1 c.resolve_path.result c.resolve_path.ensures.same)
+
+pub returns : goal.returns
+returns c =
+    let v = sentence_of c.args.arena.now in
+    subst (λ o. HasFound o (next_of (rules_of c.args.library.now) (tree c.args.chart.now.edges c.args.k))) (c.in-Some.is ∙ ap (λ x. Some x) c.in-Atom.is)
+    (found_category c.args.library.now v c.requires.ready.0 c.args.chart.now.words c.args.chart.now.edges c.edge-edge.ensures.edges c.requires.ready.1 c.args.k c.edge-edge.result.now c.edge-edge.ensures.there
+    (sym c.is_passive.ensures ∙ c.if-is_passive.false) c.next_kind.result.0 c.next_kind.ensures.0 c.next_kind.result.1.0 c.next_kind.ensures.1 c.resolve_path.result c.resolve_path.ensures.same)
