@@ -6,7 +6,6 @@ ghost use Rattle.patr_model.specs.Session.{Numbering, AgreesWith, IsSentenceRepl
 ghost use Rattle.patr_model.specs.Solved.{solved};
 ghost use Rattle.patr_model.specs.Table.{table_look};
 ghost use Rattle.patr_model.specs.Text.{tree_text};
-ghost use Rattle.patr_text.specs.Texts.{first_texts, Extends};
 ghost use Rattle.patr_chart.specs.Charted.{tree};
 ghost use Rattle.patr_library.specs.Stored.{keys, rules_of};
 ghost use Rattle.patr_parse.specs.Found.{IsSound};
@@ -120,7 +119,6 @@ pub fn reply<'a, N: Nodes>(
     features: bool,
     count: bool,
 ) -> Result<String, Memory>
-    requires first { Extends first_texts symbols.now }
     requires held { AreHeldBy (length symbols.now) library.now }
     requires shown { N.shown nodes.now ≡ parsed.now.shown }
     requires sound { (ws : List ℕ) × (limit : ℕ) × IsSound (rules_of library.now) keys.cat library.now ws limit parsed.now }
@@ -129,6 +127,8 @@ pub fn reply<'a, N: Nodes>(
     ensures sentence { (words : List (List ℕ)) (limit : ℕ) (names : Numbering) → IsParsed library.now symbols.now words limit parsed.now → AgreesWith names symbols.now
         → IfOk result (λ text. IsSentenceReply solved (grounds names library.now) (state_of limit features count) words (string_bytes text)) }
 {
+    // the table begins with the first texts
+    let _count = symbols.len();
     let chart = parsed.chart();
     let mut text = listed(
         alloc,
