@@ -1,20 +1,25 @@
 -- Where the words, the files and the input are as they should be and no device fails, a run is done, or memory was short.
-use Rattle.std.proofs.Common.{◌≡◌, ◌⊎◌, ◌≤◌, ◌<◌, ℕ, List, [], Option, Some, None, IfSome, Bool, true, length, refl, sym, ◌∙◌, ap, subst, inl, inr, arith}
+use Rattle.std.proofs.Common.{◌≡◌, ◌⊎◌, ◌≤◌, ◌<◌, ◌^◌, ℕ, List, [], ◌∷◌, Option, Some, None, IfSome, Bool, true, false, true≢false, length, take, refl, sym, ◌∙◌, ap, subst, inl, inr, arith}
 use Rattle.std.specs.Bool.{OnTrue}
 use Rattle.std.specs.Option.{IsSomeAnd}
 use Rattle.std.specs.FinMap.{get}
 use Rattle.patr_io.specs.Causes.{Rose, HasCause}
 use Rattle.patr_io.specs.Files.{Files, IsAbsent}
-use Rattle.patr_model.specs.Session.{Numbering, Grounds, State}
+use Rattle.patr_model.specs.Solved.{solved}
+use Rattle.patr_model.specs.Session.{Numbering, Grounds, State, Replied, whole_lines_of}
 use Rattle.patr_model.specs.Run as run
-use Rattle.patr_model.specs.Run.{Setup, Session, AfterWords, AfterGrammar, IsOpening, IsOut, IsSession, Follows, first_state}
+use Rattle.patr_model.specs.Run.{Setup, Session, IsOpening, IsOut, IsSession, Follows, first_state}
 use Rattle.patr_model.specs.GrammarText.{ReadsGrammar, grammar_fault_line}
 use Rattle.patr_model.specs.LexiconText.{ReadsLexicon, lexicon_fault_line}
-use Rattle.patr_model.specs.Built.{stage, built, plain_grounds}
+use Rattle.patr_model.specs.Build as model
+use Rattle.patr_model.specs.Build.{BuildFault, InGrammar, InLexicon, build_fault}
+use Rattle.patr_model.specs.Notations.{lines_with_commands}
+use Rattle.patr_model.specs.Built.{stage, built}
 use Rattle.patr_model.proofs.Maps.{some_inj}
-use Rattle.patr_model.proofs.OneRun.{no_grammar_fault, no_lexicon_fault}
+use Rattle.patr_model.proofs.OneRun.{one_grammar, no_grammar_fault, one_lexicon, no_lexicon_fault}
 use Rattle.patr_grammar.specs.Reading.{fault_of}
 use Rattle.patr_lexicon.specs.Reading.{fault_of as lexicon_fault_of}
+use Rattle.patr_expand.specs.Seen.{cause_seen}
 use Rattle.patr_shell.specs.declared.status.GrammarTrouble.{GrammarTrouble}
 use Rattle.patr_shell.specs.declared.status.GrammarTrouble.TheVariants as grammar_trouble
 use Rattle.patr_shell.specs.declared.status.LexiconTrouble.{LexiconTrouble}
@@ -23,7 +28,8 @@ use Rattle.patr_shell.specs.declared.status.Status.{Status}
 use Rattle.patr_shell.specs.declared.status.Status.TheVariants.{Done, BadWords, BadGrammar, BadLexicon, ReadFault, WriteFault, Memory, InputTooLong}
 use Rattle.patr_shell.specs.declared.refusal.Refusal.{Refusal}
 use Rattle.patr_shell.specs.declared.refusal.Refusal.TheVariants as refusal
-use Rattle.patr_shell.specs.Outcome.{is_definite, Names, HasBadGrammar, HasBadLexicon, HaveSession, LooksAt, grammar, lexicon, CannotLoad, IsStatusOf, IsSessionStatus, IsEndOf, status_of, HasWritten, MayBeDone}
+use Rattle.patr_shell.specs.Answering.{HasQuit}
+use Rattle.patr_shell.specs.Outcome.{is_definite, Names, Builds, HasBadGrammar, HasBadLexicon, HaveSession, LooksAt, grammar, lexicon, CannotLoad, IsStatusOf, IsSessionStatus, IsEndOf, status_of, HasWritten, IsWithin, MayBeDone}
 use Rattle.patr_shell.proofs.RunLaws.{one_opening, numbered_tables}
 
 -- a file is no longer than it may be
@@ -31,40 +37,78 @@ not_long : (o : Option (List ℕ)) (most : ℕ) (bytes : List ℕ) → o ≡ Som
 not_long None most bytes is short long = long
 not_long (Some b) most bytes is short long = let same : b ≡ bytes = some_inj b bytes is in let l = ap length same in omega (arith, l, short, long)
 
+-- two files stand for one grammar and one lexicon, of which the build refuses one thing
+one_fault : (f : Files) (g l : List ℕ) (x y : Option BuildFault) → Builds (Some f) g l x → Builds (Some f) g l y → x ≡ y
+one_fault f g l x y b c =
+    let first : b.grammar_bytes ≡ c.grammar_bytes = some_inj b.grammar_bytes c.grammar_bytes (sym b.grammar_file ∙ c.grammar_file) in
+    let second : b.lexicon_bytes ≡ c.lexicon_bytes = some_inj b.lexicon_bytes c.lexicon_bytes (sym b.lexicon_file ∙ c.lexicon_file) in
+    let rules : b.rules ≡ c.rules = one_grammar stage c.grammar_bytes b.rules c.rules (subst (λ z. ReadsGrammar stage z b.rules) first b.reads_grammar) c.reads_grammar in
+    let entries : b.entries ≡ c.entries = one_lexicon stage c.lexicon_bytes b.entries c.entries (subst (λ z. ReadsLexicon stage z b.entries) second b.reads_lexicon) c.reads_lexicon in
+    let between : build_fault b.rules b.entries ≡ build_fault c.rules c.entries = λ i. build_fault (rules i) (entries i) in
+    sym b.is ∙ between ∙ c.is
+
+-- lines of which one ends the session are not replied to up to their end
+quit_is_met : (s : Grounds) (st : State) (ls : List (List ℕ)) (text : List ℕ) → HasQuit ls → Replied solved lines_with_commands s st ls text false → ⊥
+quit_is_met s st [] text q r = q
+quit_is_met s st (l ∷ ls) text q (inl r) = true≢false (sym r.2)
+quit_is_met s st (l ∷ ls) text (inl q) (inr r) = r.0 q
+quit_is_met s st (l ∷ ls) text (inr q) (inr r) = quit_is_met s r.2 ls r.3 q r.5
+
 module _ (words : List (List ℕ)) (f : Files) (session : HaveSession words (Some f)) where
   one_setup : (s : Setup) → Names words s → s ≡ session.0
   one_setup s named = some_inj s session.0 (sym named ∙ session.1)
 
-  no_bad_grammar : (trouble : GrammarTrouble) → HasBadGrammar (Some f) session.0.grammar trouble → ⊥
-  no_bad_grammar grammar_trouble.TooLong bad = not_long (get f session.0.grammar) 4194304 session.2.0 session.2.2 session.2.3 bad
+  no_bad_grammar : (trouble : GrammarTrouble) → HasBadGrammar (Some f) session.0 trouble → ⊥
+  no_bad_grammar grammar_trouble.TooLong bad = not_long (get f session.0.grammar) 4194304 session.2.grammar_bytes session.2.grammar_file session.2.grammar_short bad
   no_bad_grammar (grammar_trouble.Text cause) bad =
-      let same : bad.0 ≡ session.2.0 = some_inj bad.0 session.2.0 (sym bad.1 ∙ session.2.2) in
-      no_grammar_fault stage bad.0 (grammar_fault_line (fault_of cause)) session.2.1 (subst (λ b. ReadsGrammar stage b session.2.1) (sym same) session.2.4) (fault_of cause, bad.3, refl)
+      let same : bad.0 ≡ session.2.grammar_bytes = some_inj bad.0 session.2.grammar_bytes (sym bad.1 ∙ session.2.grammar_file) in
+      no_grammar_fault stage bad.0 (grammar_fault_line (fault_of cause)) session.2.rules (subst (λ b. ReadsGrammar stage b session.2.rules) (sym same) session.2.reads_grammar) (fault_of cause, bad.3, refl)
+  no_bad_grammar (grammar_trouble.Expand cause) bad =
+      let e : None ≡ Some (InGrammar (cause_seen cause)) = one_fault f session.0.grammar session.0.lexicon None (Some (InGrammar (cause_seen cause))) session.2 bad in
+      cc
 
-  no_bad_lexicon : (trouble : LexiconTrouble) → HasBadLexicon (Some f) session.0.lexicon trouble → ⊥
-  no_bad_lexicon lexicon_trouble.TooLong bad = not_long (get f session.0.lexicon) 16777216 session.3.0 session.3.2 session.3.3 bad
+  no_bad_lexicon : (trouble : LexiconTrouble) → HasBadLexicon (Some f) session.0 trouble → ⊥
+  no_bad_lexicon lexicon_trouble.TooLong bad = not_long (get f session.0.lexicon) 16777216 session.2.lexicon_bytes session.2.lexicon_file session.2.lexicon_short bad
   no_bad_lexicon (lexicon_trouble.Text cause) bad =
-      let same : bad.0 ≡ session.3.0 = some_inj bad.0 session.3.0 (sym bad.1 ∙ session.3.2) in
-      no_lexicon_fault stage bad.0 (lexicon_fault_line (lexicon_fault_of cause)) session.3.1 (subst (λ b. ReadsLexicon stage b session.3.1) (sym same) session.3.4) (lexicon_fault_of cause, bad.3, refl)
+      let same : bad.0 ≡ session.2.lexicon_bytes = some_inj bad.0 session.2.lexicon_bytes (sym bad.1 ∙ session.2.lexicon_file) in
+      no_lexicon_fault stage bad.0 (lexicon_fault_line (lexicon_fault_of cause)) session.2.entries (subst (λ b. ReadsLexicon stage b session.2.entries) (sym same) session.2.reads_lexicon) (lexicon_fault_of cause, bad.3, refl)
+  no_bad_lexicon (lexicon_trouble.Expand cause) bad =
+      let e : None ≡ Some (InLexicon (cause_seen cause)) = one_fault f session.0.grammar session.0.lexicon None (Some (InLexicon (cause_seen cause))) session.2 bad in
+      cc
 
   none_absent : (name : List ℕ) → LooksAt words (Some f) name → get f name ≡ None → ⊥
-  none_absent name (grammar s named is) gone = let e : s ≡ session.0 = one_setup s named in let g = session.2.2 in let n : name ≡ session.0.grammar = is ∙ ap (λ (z : Setup). z.grammar) e in let h : get f session.0.grammar ≡ None = subst (λ z. get f z ≡ None) n gone in cc
-  none_absent name (lexicon s named is other) gone = let e : s ≡ session.0 = one_setup s named in let g = session.3.2 in let n : name ≡ session.0.lexicon = is ∙ ap (λ (z : Setup). z.lexicon) e in let h : get f session.0.lexicon ≡ None = subst (λ z. get f z ≡ None) n gone in cc
+  none_absent name (grammar s named is) gone =
+      let n : name ≡ session.0.grammar = is ∙ ap (λ (z : Setup). z.grammar) (one_setup s named) in
+      let h : get f session.0.grammar ≡ None = subst (λ z. get f z ≡ None) n gone in
+      let k : None ≡ Some session.2.grammar_bytes = sym h ∙ session.2.grammar_file in
+      cc
+  none_absent name (lexicon s named is other) gone =
+      let n : name ≡ session.0.lexicon = is ∙ ap (λ (z : Setup). z.lexicon) (one_setup s named) in
+      let h : get f session.0.lexicon ≡ None = subst (λ z. get f z ≡ None) n gone in
+      let k : None ≡ Some session.2.lexicon_bytes = sym h ∙ session.2.lexicon_file in
+      cc
 
-  -- an input within its size is not too long
-  not_too_long : (input : List ℕ) → length input ≤ 16777216 → (a b : Option (List ℕ)) → HasWritten words f input InputTooLong a b → ⊥
-  not_too_long input short a b written =
+  -- an input within its size, or with a line within it that ends the session, is not too long
+  not_too_long : (input : List ℕ) → IsWithin input → (a b : Option (List ℕ)) → HasWritten words f input InputTooLong a b → ⊥
+  not_too_long input fits a b written =
       let N : Numbering = (numbered_tables [] (λ i j t h k. let e : None ≡ Some t = h in cc)).0 in
       let out : IsOut built N words (get f) input written.text run.InputTooLong = written.is_out N in
-      let opened : IsOpening built N words (get f) (Session (plain_grounds N session.2.1 session.3.1) (first_state session.0)) =
-      inr (session.0, session.1, AfterWords.read session.2.0 session.2.1 session.2.2 session.2.3 session.2.4 (AfterGrammar.built session.3.0 session.3.1 (plain_grounds N session.2.1 session.3.1) session.3.2 session.3.3 session.3.4 refl refl)) in
-      let same : out.0 ≡ Session (plain_grounds N session.2.1 session.3.1) (first_state session.0) = one_opening N words (get f) out.0 _ out.1 opened in
-      go (plain_grounds N session.2.1 session.3.1) (first_state session.0) written.text (subst (λ o. Follows built o input written.text run.InputTooLong) same out.2)
+      let s : Grounds = model.grounds N session.2.rules session.2.entries in
+      let opened : IsOpening built N words (get f) (Session s (first_state session.0)) =
+      inr (
+        session.0,
+        session.1,
+        run.read session.2.grammar_bytes session.2.rules session.2.grammar_file session.2.grammar_short session.2.reads_grammar
+            (run.built session.2.lexicon_bytes session.2.entries s session.2.lexicon_file session.2.lexicon_short session.2.reads_lexicon (session.2.is, refl) refl),
+      ) in
+      let same : out.0 ≡ Session s (first_state session.0) = one_opening N words (get f) out.0 (Session s (first_state session.0)) out.1 opened in
+      go s (first_state session.0) written.text (subst (λ o. Follows built o input written.text run.InputTooLong) same out.2) fits
     where
-      go : (s : Grounds) (st : State) (text : List ℕ) → IsSession built s st input text run.InputTooLong → ⊥
-      go s st text (run.ended l q r e) = cc
-      go s st text (run.quit l r e) = cc
-      go s st text (run.too_long l before r t e) = omega (arith, l, short)
+      go : (s : Grounds) (st : State) (text : List ℕ) → IsSession built s st input text run.InputTooLong → IsWithin input → ⊥
+      go s st text (run.ended l q r e) fits = cc
+      go s st text (run.quit l r e) fits = cc
+      go s st text (run.too_long l before r t e) (inl short) = omega (arith, l, short)
+      go s st text (run.too_long l before r t e) (inr quits) = quit_is_met s st (whole_lines_of (take (2 ^ 24) input)) before quits r
 
 -- a run is done, or memory was short
 module _ (words : List (List ℕ)) (files : Option Files) (left : Option (List ℕ)) (may : MayBeDone words files left) where
@@ -76,10 +120,10 @@ module _ (words : List (List ℕ)) (files : Option Files) (left : Option (List �
   no_refusal refusal.Words cause = let e = told_session.1 in let n : None ≡ Some told_session.0 = sym cause ∙ e in cc
   no_refusal (refusal.Grammar trouble) cause =
       let c : IsStatusOf words (Some may.told.0) (BadGrammar trouble) = subst (λ o. IsStatusOf words o (BadGrammar trouble)) may.told.1 cause in
-      no_bad_grammar words may.told.0 told_session trouble (subst (λ (z : Setup). HasBadGrammar (Some may.told.0) z.grammar trouble) (one_setup words may.told.0 told_session c.0 c.1) c.2)
+      no_bad_grammar words may.told.0 told_session trouble (subst (λ (z : Setup). HasBadGrammar (Some may.told.0) z trouble) (one_setup words may.told.0 told_session c.0 c.1) c.2)
   no_refusal (refusal.Lexicon trouble) cause =
       let c : IsStatusOf words (Some may.told.0) (BadLexicon trouble) = subst (λ o. IsStatusOf words o (BadLexicon trouble)) may.told.1 cause in
-      no_bad_lexicon words may.told.0 told_session trouble (subst (λ (z : Setup). HasBadLexicon (Some may.told.0) z.lexicon trouble) (one_setup words may.told.0 told_session c.0 c.1) c.3)
+      no_bad_lexicon words may.told.0 told_session trouble (subst (λ (z : Setup). HasBadLexicon (Some may.told.0) z trouble) (one_setup words may.told.0 told_session c.0 c.1) c.3)
 
   pub refused_not : (r : Refusal) (status : Status) → IsStatusOf words files (status_of r) → IsEndOf r status → (status ≡ WriteFault → ⊥) → (status ≡ Done) ⊎ (status ≡ Memory)
   refused_not r status cause (inl is) write = absurd (no_refusal r cause)

@@ -1,198 +1,142 @@
--- What the rules and the entries that were read stand for, under a numbering.
-use Rattle.std.proofs.Common.{◌≡◌, ◌<◌, ℕ, suc, List, [], ◌∷◌, length, map, Option, Some, None, slice_get, IfSome, refl, sym, ◌∙◌, ap, subst, arith, inr}
-use Rattle.std.proofs.lemmas.Option.{slice_get_within}
-use Rattle.std.specs.List.{AllByRecursion}
+-- What the grammar and the entries that were read stand for, under a numbering.
+use Rattle.std.proofs.Common.{◌≡◌, ℕ, List, [], ◌∷◌, map, length, codes, Option, Some, None, slice_get, IfSome, refl, sym, ◌∙◌, ap, subst, inr}
 use Rattle.patr_io.specs.Files.{Files}
 use Rattle.patr_text.specs.declared.symbols.Id.{Id}
 use Rattle.patr_text.specs.Texts.{first_texts, Extends}
-use Rattle.patr_model.specs.Derivation.{Rules, RuleVariant, EntryVariant}
-use Rattle.patr_model.specs.Session.{Numbering, AgreesWith, Grounds}
+use Rattle.patr_model.specs.Session.{Numbering, AgreesWith}
 use Rattle.patr_model.specs.Run as run
-use Rattle.patr_model.specs.Run.{Setup, read}
+use Rattle.patr_model.specs.Run.{Setup, first_state}
 use Rattle.patr_model.specs.Renaming.{Each}
 use Rattle.patr_model.specs.Productions as production
-use Rattle.patr_model.specs.Productions.{SymbolText, things}
-use Rattle.patr_model.specs.Agreeing.{SameSymbolText, SameRuleText}
 use Rattle.patr_model.specs.LexiconText.{EntryText}
-use Rattle.patr_model.specs.Built.{categories, plain_variants, plain_grounds}
-use Rattle.patr_model.proofs.Agreeing.{things_agree}
-use Rattle.patr_grammar.specs.Reading.{IsText, IsGrammar, item_seen, right_seen, rule_seen}
-use Rattle.patr_grammar.specs.declared.grammar.Item.{Item}
-use Rattle.patr_grammar.specs.declared.grammar.RuleText.{RuleText}
+use Rattle.patr_model.specs.Build as model
+use Rattle.patr_model.specs.Build.{BuildFault, InGrammar, InLexicon, build, keys_of, build_fault}
+use Rattle.patr_model.proofs.SameBuilds.{same_build, same_fault}
+use Rattle.patr_grammar.specs.Reading.{IsText, IsGrammar}
 use Rattle.patr_grammar.specs.declared.grammar.Grammar.{Grammar}
-use Rattle.patr_shell.specs.declared.language.Rule.{Rule}
+use Rattle.patr_grammar.proofs.Grown.{grammar_still}
 use Rattle.patr_lexicon.specs.declared.lexicon.Entry.{Entry}
 use Rattle.patr_lexicon.specs.Reading.{AreEntriesOf}
-use Rattle.patr_shell.specs.Spoken.{Spoken, rule_categories, rule_variants, entry_variants, rules_of, IsRuleHeld, IsEntryHeld, AreHeldIn, grounds}
-use Rattle.patr_shell.specs.Loaded.{text_categories, ReadsGrammar, ReadsLexicon}
-use Rattle.patr_shell.specs.Outcome.{Names, IsOpened, HasGrammar, HaveSession}
-use Rattle.patr_grammar.proofs.Grown.{grammar_still}
+use Rattle.patr_expand.specs.Seen.{cause_seen}
+use Rattle.patr_library.specs.Stored.{Stored, keys, number, grammar_of, entries_of, built_rules, rules_of, IsBuiltFrom}
+use Rattle.patr_reply.specs.Held.{AreHeldBy}
+use Rattle.patr_reply.proofs.Reading.{libraries_are_held}
+use Rattle.patr_shell.specs.declared.state.State.{State}
+use Rattle.patr_shell.specs.declared.status.GrammarTrouble.TheVariants as grammar_trouble
+use Rattle.patr_shell.specs.declared.status.LexiconTrouble.TheVariants as lexicon_trouble
+use Rattle.patr_shell.specs.declared.refusal.OpeningFault.{OpeningFault}
+use Rattle.patr_shell.specs.declared.refusal.OpeningFault.TheVariants.{Refused, Read, Memory}
+use Rattle.patr_shell.specs.declared.refusal.Refusal.TheVariants as refusal
+use Rattle.patr_shell.specs.Spoken.{Spoken, grounds, state_seen}
+use Rattle.patr_shell.specs.Loaded.{ReadsGrammar, ReadsLexicon, IsBuiltOf, IsBuildFault}
+use Rattle.patr_shell.specs.Outcome.{Names, Builds, IsOpened, HasGrammar, HaveSession, IsFaultOf}
 
-abbrev rules_with : List (List RuleVariant) → List (List EntryVariant) → ℕ → Rules
-rules_with rs es n = record { rules = rs; entries = es; start = n; restrictor = [] }
+-- ---- by the table and by a numbering
 
-abbrev grounds_with : Numbering → Rules → Grounds
-grounds_with N r = record { names = N; rules = r; order = [] }
+number_is : (N : Numbering) (table : List (List ℕ)) → AgreesWith N table → (i : Id) (t : List ℕ) → IsText table i t → number i ≡ N.number t
+number_is N table agrees i t at = sym (agrees i.0 t at)
 
-length_maps : {X Y Z : Type 0} (f : X → Z) (g : Y → Z) (xs : List X) (ys : List Y) → map f xs ≡ map g ys → length xs ≡ length ys
-length_maps f g [] [] is = refl
-length_maps f g [] (y ∷ ys) is = cc
-length_maps f g (x ∷ xs) [] is = cc
-length_maps f g (x ∷ xs) (y ∷ ys) is = let rest : map f xs ≡ map g ys = cc in ap suc (length_maps f g xs ys rest)
+keys_are : (N : Numbering) (table : List (List ℕ)) → Extends first_texts table → AgreesWith N table → keys ≡ keys_of N
+unfolding first_texts
+keys_are N table longer agrees =
+    let cat = agrees 33 (codes "cat") (ap (λ t. slice_get t 33) longer.1) in
+    let lex = agrees 34 (codes "lex") (ap (λ t. slice_get t 34) longer.1) in
+    let gloss = agrees 35 (codes "gloss") (ap (λ t. slice_get t 35) longer.1) in
+    λ i. record { cat = sym cat i; lex = sym lex i; gloss = sym gloss i }
 
--- a rule as it was read, by texts
-abbrev Rule' : Type 0
-Rule' = production.RuleText (List ℕ)
+-- nothing is alike to nothing alone
+none_alike : {X Y : Type 0} (R : X → Y → Type 0) (ys : List Y) → Each R [] ys → ys ≡ []
+none_alike R [] h = refl
+none_alike R (y ∷ ys) h = absurd h
 
--- the table's rules are these
-abbrev pub AreRules : List (List ℕ) → List RuleText → List Rule' → Type 0
-AreRules table gs rs = Each (SameRuleText (IsText table)) (map rule_seen gs) rs
+-- ---- a grammar and entries by a table
 
-things_seen : (items : List Item) → things (right_seen items) ≡ map item_seen items
-things_seen [] = refl
-things_seen (i ∷ items) = ap (λ (l : List (SymbolText Id)). item_seen i ∷ l) (things_seen items)
+module _ (table : List (List ℕ)) (g : Grammar) (t : production.Grammar (List ℕ)) (es : List Entry) (ts : List EntryText) (grammar : IsGrammar table g t) (entries : AreEntriesOf table es ts) where
+  fault_is : build_fault (grammar_of g) (entries_of es) ≡ build_fault t ts
+  fault_is = same_fault (IsText table) (grammar_of g) t (entries_of es) ts grammar entries
 
--- the symbols behind the arrow, one by one
-pub right_each : (table : List (List ℕ)) (g : RuleText) (r : Rule') → SameRuleText (IsText table) (rule_seen g) r → Each (SameSymbolText (IsText table)) (map item_seen g.right.items) (things r.right)
-right_each table g r is =
-    subst (λ l. Each (SameSymbolText (IsText table)) l (things r.right)) (things_seen g.right.items)
-    (things_agree (SameSymbolText (IsText table)) (right_seen g.right.items) r.right is.right)
+  rules_are : (N : Numbering) → Extends first_texts table → AgreesWith N table → built_rules g es ≡ build N.number (keys_of N) t ts
+  rules_are N first agrees =
+      ap (λ k. build number k (grammar_of g) (entries_of es)) (keys_are N table first agrees)
+      ∙ same_build (IsText table) number N.number (number_is N table agrees) (keys_of N) (grammar_of g) t (entries_of es) ts grammar entries
 
--- ---- held by the table
+  grounds_are : (N : Numbering) → Extends first_texts table → AgreesWith N table → (s : Spoken) → IsBuiltFrom g es s.library → grounds N s ≡ model.grounds N t ts
+  grounds_are N first agrees s built =
+      let rules : rules_of s.library ≡ build N.number (keys_of N) t ts =
+      ap (λ x. built_rules x s.library.lexicon) built.grammar ∙ ap (built_rules g) built.lexicon ∙ rules_are N first agrees in
+      let order : [] ≡ map N.number t.order = ap (map N.number) (sym (none_alike (IsText table) t.order grammar.order)) in
+      λ i. record { names = N; rules = rules i; order = order i }
 
-module _ (table : List (List ℕ)) where
-  categories_held : (items : List Item) (ts : List (SymbolText (List ℕ))) → Each (SameSymbolText (IsText table)) (map item_seen items) ts → AllByRecursion (λ c. c < length table) (map (λ (i : Item). (item_seen i).category.0) items)
-  categories_held [] [] is = tt
-  categories_held (i ∷ is) [] held = absurd held
-  categories_held [] (t ∷ ts) held = absurd held
-  categories_held (i ∷ is) (t ∷ ts) held = (slice_get_within table (item_seen i).category.0 t.category held.0.category, categories_held is ts held.1)
-
-  rule_held : (g : RuleText) (r : Rule') → SameRuleText (IsText table) (rule_seen g) r → AllByRecursion (λ c. c < length table) (text_categories g)
-  rule_held g r is = (slice_get_within table g.mother.category.0 r.mother.category is.mother.category, categories_held g.right.items (things r.right) (right_each table g r is))
-
-  rules_held : (rules : List Rule) (gs : List RuleText) (rs : List Rule') → map rule_categories rules ≡ map text_categories gs → AreRules table gs rs → AllByRecursion (IsRuleHeld (length table)) rules
-  rules_held [] gs rs same is = tt
-  rules_held (rule ∷ rules) [] rs same is = cc
-  rules_held (rule ∷ rules) (g ∷ gs) [] same is = absurd is
-  rules_held (rule ∷ rules) (g ∷ gs) (r ∷ rs) same is =
-      let here : text_categories g ≡ rule_categories rule = cc in
-      let rest : map rule_categories rules ≡ map text_categories gs = cc in
-      (subst (λ l. AllByRecursion (λ c. c < length table) l) here (rule_held g r is.0), rules_held rules gs rs rest is.1)
-
-  entries_held : (es : List Entry) (ps : List EntryText) → AreEntriesOf table es ps → AllByRecursion (IsEntryHeld (length table)) es
-  entries_held [] ps is = tt
-  entries_held (e ∷ es) [] is = absurd is
-  entries_held (e ∷ es) (p ∷ ps) is = ((slice_get_within table e.word.0 p.word is.0.word, slice_get_within table e.category.0 p.category is.0.category), entries_held es ps is.1)
-
--- ---- under a numbering
-
-module _ (N : Numbering) (table : List (List ℕ)) (agrees : AgreesWith N table) where
-  number_is : (i : ℕ) (t : List ℕ) → slice_get table i ≡ Some t → i ≡ N.number t
-  number_is i t at = sym (agrees i t at)
-
-  categories_are : (items : List Item) (ts : List (SymbolText (List ℕ))) → Each (SameSymbolText (IsText table)) (map item_seen items) ts
-      → map (λ (i : Item). (item_seen i).category.0) items ≡ map (λ (x : SymbolText (List ℕ)). N.number x.category) ts
-  categories_are [] [] is = refl
-  categories_are (i ∷ is) [] held = absurd held
-  categories_are [] (t ∷ ts) held = absurd held
-  categories_are (i ∷ is) (t ∷ ts) held =
-      let here = number_is (item_seen i).category.0 t.category held.0.category in
-      let rest = categories_are is ts held.1 in
-      cc
-
-  rule_is : (g : RuleText) (r : Rule') → SameRuleText (IsText table) (rule_seen g) r → text_categories g ≡ categories N r
-  rule_is g r is =
-      let mother = number_is g.mother.category.0 r.mother.category is.mother.category in
-      let right = categories_are g.right.items (things r.right) (right_each table g r is) in
-      ap (λ (c : ℕ). c ∷ map (λ (i : Item). (item_seen i).category.0) g.right.items) mother ∙ ap (λ (l : List ℕ). N.number r.mother.category ∷ l) right
-
-  abbrev variants_of : List ℕ → List RuleVariant
-  variants_of cs = record { categories = cs; equations = [] } ∷ []
-
-  rules_are : (rules : List Rule) (gs : List RuleText) (rs : List Rule') → map rule_categories rules ≡ map text_categories gs → AreRules table gs rs
-      → map rule_variants rules ≡ map (λ (r : Rule'). record { categories = categories N r; equations = [] } ∷ []) rs
-  rules_are [] [] [] same is = refl
-  rules_are [] [] (r ∷ rs) same is = absurd is
-  rules_are [] (g ∷ gs) rs same is = cc
-  rules_are (rule ∷ rules) [] rs same is = cc
-  rules_are (rule ∷ rules) (g ∷ gs) [] same is = absurd is
-  rules_are (rule ∷ rules) (g ∷ gs) (r ∷ rs) same is =
-      let here : rule_categories rule ≡ text_categories g = cc in
-      let rest : map rule_categories rules ≡ map text_categories gs = cc in
-      ap (λ (cs : List ℕ). variants_of cs ∷ map rule_variants rules) (here ∙ rule_is g r is.0)
-      ∙ ap (λ (l : List (List RuleVariant)). variants_of (categories N r) ∷ l) (rules_are rules gs rs rest is.1)
-
-  abbrev entry_with : ℕ → ℕ → List EntryVariant
-  entry_with w c = record { word = w; category = c; equations = []; chain = [] } ∷ []
-
-  entries_are : (es : List Entry) (ps : List EntryText) → AreEntriesOf table es ps
-      → map entry_variants es ≡ map (λ (p : EntryText). record { word = N.number p.word; category = N.number p.category; equations = []; chain = [] } ∷ []) ps
-  entries_are [] [] is = refl
-  entries_are [] (p ∷ ps) is = absurd is
-  entries_are (e ∷ es) [] is = absurd is
-  entries_are (e ∷ es) (p ∷ ps) is =
-      ap (λ (w : ℕ). entry_with w e.category.0 ∷ map entry_variants es) (number_is e.word.0 p.word is.0.word)
-      ∙ ap (λ (c : ℕ). entry_with (N.number p.word) c ∷ map entry_variants es) (number_is e.category.0 p.category is.0.category)
-      ∙ ap (λ (l : List (List EntryVariant)). entry_with (N.number p.word) (N.number p.category) ∷ l) (entries_are es ps is.1)
+-- a library of what was read by a table is held by it
+pub library_held : (table : List (List ℕ)) (g : Grammar) (t : production.Grammar (List ℕ)) (es : List Entry) (ts : List EntryText) → IsGrammar table g t → AreEntriesOf table es ts
+    → (s : Stored) → IsBuiltFrom g es s → AreHeldBy (length table) s
+library_held table g t es ts grammar entries s built =
+    libraries_are_held table s t ts (subst (λ x. IsGrammar table x t) (sym built.grammar) grammar) (subst (λ l. AreEntriesOf table l ts) (sym built.lexicon) entries)
 
 -- ---- the two files of a run
 
-module _ (old table : List (List ℕ)) (longer : Extends old table) (grammar : Grammar) (entries : List Entry) (rules : List Rule)
-    (same : map rule_categories rules ≡ map text_categories grammar.rules.items) where
-  module _ (files : Option Files) (grammar_name lexicon_name : List ℕ) (g : ReadsGrammar files grammar_name old grammar) (l : ReadsLexicon files lexicon_name table entries) where
-    is_read : IsGrammar table grammar g.stands.0
-    is_read = grammar_still old table longer grammar g.stands.0 g.stands.2
+module _ (old table : List (List ℕ)) (longer : Extends old table) (files : Option Files) (setup : Setup) (grammar : Grammar) (entries : List Entry)
+    (g : ReadsGrammar files setup.grammar old grammar) (l : ReadsLexicon files setup.lexicon table entries) where
+  pub is_read : IsGrammar table grammar g.stands.0
+  is_read = grammar_still old table longer grammar g.stands.0 g.stands.2
 
-    pub are_held : AreHeldIn (length table) rules entries grammar.start
-    are_held = record {
-      rules = rules_held table rules grammar.rules.items g.stands.0.rules same is_read.rules;
-      entries = entries_held table entries l.stands.0 l.stands.2;
-      start = slice_get_within table grammar.start.0 g.stands.0.start is_read.start;
-    }
-
-    pub are_few_rules : length rules < 4294967296
-    are_few_rules =
-        let a = length_maps rule_categories text_categories rules grammar.rules.items same in
-        omega (arith, a, g.few, g.short)
-
-    grounds_are : (N : Numbering) → AgreesWith N table → (spoken : Spoken) → spoken.rules ≡ rules_of rules entries grammar.start → grounds N spoken ≡ plain_grounds N g.stands.0 l.stands.0
-    grounds_are N agrees spoken is =
-        let rs = rules_are N table agrees rules grammar.rules.items g.stands.0.rules same is_read.rules in
-        let es = entries_are N table agrees entries l.stands.0 l.stands.2 in
-        let first = number_is N table agrees grammar.start.0 g.stands.0.start is_read.start in
-        ap (λ (r : Rules). grounds_with N r) is
-        ∙ ap (λ (r : List (List RuleVariant)). grounds_with N (rules_with r (map entry_variants entries) grammar.start.0)) rs
-        ∙ ap (λ (e : List (List EntryVariant)). grounds_with N (rules_with (plain_variants N g.stands.0 l.stands.0).rules e grammar.start.0)) es
-        ∙ ap (λ (n : ℕ). grounds_with N (rules_with (plain_variants N g.stands.0 l.stands.0).rules (plain_variants N g.stands.0 l.stands.0).entries n)) first
-
-  opens : (f : Files) (setup : Setup) → ReadsGrammar (Some f) setup.grammar old grammar → ReadsLexicon (Some f) setup.lexicon table entries
-      → (words : List (List ℕ)) → Names words setup → (spoken : Spoken) → spoken.texts ≡ table → spoken.rules ≡ rules_of rules entries grammar.start
-      → IsOpened words f spoken setup.limit
-  opens f setup g l words named spoken texts is = λ N agrees.
-      let here : AgreesWith N table = subst (λ t. AgreesWith N t) texts agrees in
-      inr (
-        setup,
-        named,
-        read g.bytes g.stands.0 g.file g.short g.stands.1
-            (run.built l.bytes l.stands.0 (grounds N spoken) l.file l.short l.stands.1 (grounds_are (Some f) setup.grammar setup.lexicon g l N here spoken is) refl),
-      )
-
-  pub is_opened : (files : Option Files) (setup : Setup) → ReadsGrammar files setup.grammar old grammar → ReadsLexicon files setup.lexicon table entries
-      → (words : List (List ℕ)) → Names words setup → (spoken : Spoken) → spoken.texts ≡ table → spoken.rules ≡ rules_of rules entries grammar.start
-      → IfSome files (λ f. IsOpened words f spoken setup.limit)
-  is_opened None setup g l words named spoken texts is = tt
-  is_opened (Some f) setup g l words named spoken texts is = opens f setup g l words named spoken texts is
+  builds : (fault : Option BuildFault) → build_fault (grammar_of grammar) (entries_of entries) ≡ fault → Builds files setup.grammar setup.lexicon fault
+  builds fault is = record {
+    grammar_bytes = g.bytes;
+    rules = g.stands.0;
+    grammar_file = g.file;
+    grammar_short = g.short;
+    reads_grammar = g.stands.1;
+    lexicon_bytes = l.bytes;
+    entries = l.stands.0;
+    lexicon_file = l.file;
+    lexicon_short = l.short;
+    reads_lexicon = l.stands.1;
+    is = sym (fault_is table grammar g.stands.0 entries l.stands.0 is_read l.stands.2) ∙ is;
+  }
 
 -- a file that is read as a grammar has one
 pub has_grammar : (files : Option Files) (name : List ℕ) (table : List (List ℕ)) (grammar : Grammar) → ReadsGrammar files name table grammar → HasGrammar files name
 has_grammar files name table grammar g = (g.bytes, g.stands.0, g.file, g.short, g.stands.1)
 
+module _ (words : List (List ℕ)) (setup : Setup) (named : Names words setup) (old table : List (List ℕ)) (longer : Extends old table) (grammar : Grammar) (entries : List Entry) where
+  module _ (files : Option Files) (g : ReadsGrammar files setup.grammar old grammar) (l : ReadsLexicon files setup.lexicon table entries) where
+    -- what was opened stands on both files
+    pub have_session : (s : Spoken) → IsBuiltOf table grammar entries s → HaveSession words files
+    have_session s built = (setup, named, builds old table longer files setup grammar entries g l None built.library.faultless)
+
+    -- what the build refuses has its cause
+    pub build_refused : (fault : OpeningFault) → IsBuildFault grammar entries fault → IsFaultOf words files fault
+    build_refused (Refused refusal.Words) is = cc
+    build_refused (Refused (refusal.Grammar grammar_trouble.TooLong)) is = cc
+    build_refused (Refused (refusal.Grammar (grammar_trouble.Text c))) is = cc
+    build_refused (Refused (refusal.Grammar (grammar_trouble.Expand c))) is = (setup, named, builds old table longer files setup grammar entries g l (Some (InGrammar (cause_seen c))) is)
+    build_refused (Refused (refusal.Lexicon lexicon_trouble.TooLong)) is = cc
+    build_refused (Refused (refusal.Lexicon (lexicon_trouble.Text c))) is = cc
+    build_refused (Refused (refusal.Lexicon (lexicon_trouble.Expand c))) is =
+        (setup, named, has_grammar files setup.grammar old grammar g, builds old table longer files setup grammar entries g l (Some (InLexicon (cause_seen c))) is)
+    build_refused Read is = cc
+    build_refused Memory is = tt
+
+  opens : (f : Files) → ReadsGrammar (Some f) setup.grammar old grammar → ReadsLexicon (Some f) setup.lexicon table entries
+      → Extends first_texts table → (s : Spoken) → IsBuiltOf table grammar entries s → (st : State) → state_seen st ≡ first_state setup → IsOpened words f s st
+  opens f g l first s built st is = λ N agrees.
+      let here : AgreesWith N table = subst (AgreesWith N) built.texts agrees in
+      let read = is_read old table longer (Some f) setup grammar entries g l in
+      let fault = fault_is table grammar g.stands.0 entries l.stands.0 read l.stands.2 in
+      let whole = grounds_are table grammar g.stands.0 entries l.stands.0 read l.stands.2 N first here s built.library in
+      inr (
+        setup,
+        named,
+        run.read g.bytes g.stands.0 g.file g.short g.stands.1
+            (run.built l.bytes l.stands.0 (grounds N s) l.file l.short l.stands.1 (sym fault ∙ built.library.faultless, whole) (ap (λ z. run.Session (grounds N s) z) is)),
+      )
+
+  pub is_opened : (files : Option Files) → ReadsGrammar files setup.grammar old grammar → ReadsLexicon files setup.lexicon table entries
+      → Extends first_texts table → (s : Spoken) → IsBuiltOf table grammar entries s → (st : State) → state_seen st ≡ first_state setup → IfSome files (λ f. IsOpened words f s st)
+  is_opened None g l first s built st is = tt
+  is_opened (Some f) g l first s built st is = opens f g l first s built st is
+
 pub first_few : length first_texts ≡ 38
 unfolding first_texts
 first_few = refl
-
--- what was opened stands on both files
-pub have_session : (files : Option Files) (words : List (List ℕ)) (setup : Setup) → Names words setup → (first second : List (List ℕ)) (grammar : Grammar) (entries : List Entry)
-    → ReadsGrammar files setup.grammar first grammar → ReadsLexicon files setup.lexicon second entries → HaveSession words files
-have_session files words setup named first second grammar entries g l =
-    (setup, named, (g.bytes, g.stands.0, g.file, g.short, g.stands.1), (l.bytes, l.stands.0, l.file, l.short, l.stands.1))

@@ -4,22 +4,25 @@ use Rattle.std.proofs.lemmas.Bool.Decides.{nat_tests}
 use Rattle.std.proofs.lemmas.List.{length-take-le, take_all}
 use Rattle.std.specs.Io.KnownBytes.{Appends}
 use Rattle.std.proofs.KnownBytes.{Appends-nil, Appends-trans}
-use Rattle.patr_model.specs.Plain.{plain}
-use Rattle.patr_model.specs.Session.{Grounds, State, IsLineReply, too_long, not_text, spelled, without_cr}
-use Rattle.patr_model.specs.Built.{sentences_alone}
-use Rattle.patr_shell.specs.Spoken.{Spoken, grounds, at_limit}
+use Rattle.patr_model.specs.Solved.{solved}
+use Rattle.patr_model.specs.Notations.{lines_with_commands}
+use Rattle.patr_model.specs.Session as session
+use Rattle.patr_model.specs.Session.{Numbering, AgreesWith, Grounds, IsQuit, IsLineReply, too_long, not_text, spelled, Replied, without_cr}
+use Rattle.patr_model.specs.Openings.{Answered}
+use Rattle.patr_shell.specs.Spoken.{Spoken, grounds, state_seen}
 use Rattle.patr_shell.specs.Sent.{AppendsFront}
-use Rattle.patr_shell.specs.Answering.{IsReply, AreReplies, HasAnswered, HasBegun}
+use Rattle.patr_shell.specs.Answering.{HasQuit, HasAnswered, HasEnded, HasBegun}
+use Rattle.patr_shell.specs.declared.state.State.{State}
 use Rattle.patr_shell.proofs.Ends.{longer_by_one}
 use Rattle.patr_shell.proofs.Fronts.{sent_none, sent_whole, front_behind}
 
 -- ---- a line of which no more than its first 4098 bytes matter
 
 -- one too long line is answered as another
-long_reply : (s : Grounds) (st : State) (x y text : List ℕ) → 4096 < length x → 4096 < length y → IsLineReply (λ g cat. plain g) sentences_alone s st x text st → IsLineReply (λ g cat. plain g) sentences_alone s st y text st
-long_reply s st x y text h k (too_long l e f) = too_long k e f
-long_reply s st x y text h k (not_text l n e f) = absurd (omega (arith, h, l))
-long_reply s st x y text h k (spelled l u r) = absurd (omega (arith, h, l))
+long_reply : (s : Grounds) (st end : session.State) (x y text : List ℕ) → 4096 < length x → 4096 < length y → IsLineReply solved lines_with_commands s st x text end → IsLineReply solved lines_with_commands s st y text end
+long_reply s st end x y text h k (too_long l e f) = too_long k e f
+long_reply s st end x y text h k (not_text l n e f) = absurd (omega (arith, h, l))
+long_reply s st end x y text h k (spelled l u r) = absurd (omega (arith, h, l))
 
 -- lines with the same first bytes are one, or both are too long
 long_too : (xs ys : List ℕ) → take 4098 xs ≡ take 4098 ys → 4098 ≤ length xs → 4098 ≤ length ys
@@ -51,35 +54,94 @@ one_or_long xs ys same = elim (leb 4098 (length xs)) as (λ t. leb 4098 (length 
   | false ↦ λ test. let short : length xs < 4098 = grind (arith, nat_tests) in inl (one_line xs ys same short)
 ] refl
 
-module _ (spoken : Spoken) (limit : ℕ) where
-  pub same_reply : (xs ys text : List ℕ) → take 4098 xs ≡ take 4098 ys → IsReply spoken limit (without_cr xs) text → IsReply spoken limit (without_cr ys) text
-  same_reply xs ys text same reply = elim (one_or_long xs ys same) [
-    | inl is ↦ subst (λ l. IsReply spoken limit (without_cr l) text) is reply
-    | inr long ↦ λ N agrees. long_reply (grounds N spoken) (at_limit limit) (without_cr xs) (without_cr ys) text long.0 long.1 (reply N agrees)
-  ]
+same_reply : (s : Grounds) (st end : session.State) (xs ys text : List ℕ) → take 4098 xs ≡ take 4098 ys → IsLineReply solved lines_with_commands s st (without_cr xs) text end → IsLineReply solved lines_with_commands s st (without_cr ys) text end
+same_reply s st end xs ys text same reply = elim (one_or_long xs ys same) [
+  | inl is ↦ subst (λ l. IsLineReply solved lines_with_commands s st (without_cr l) text end) is reply
+  | inr long ↦ long_reply s st end (without_cr xs) (without_cr ys) text long.0 long.1 reply
+]
 
-  -- ---- replies, one list behind another
+-- a line that is too long ends no session
+same_quit : (xs ys : List ℕ) → take 4098 xs ≡ take 4098 ys → IsQuit lines_with_commands (without_cr xs) → IsQuit lines_with_commands (without_cr ys)
+same_quit xs ys same stops = elim (one_or_long xs ys same) [
+  | inl is ↦ subst (λ l. IsQuit lines_with_commands (without_cr l)) is stops
+  | inr long ↦ let short = stops.0 in absurd (omega (arith, long.0, short))
+]
 
-  pub replies_of_two : (ls ms : List (List ℕ)) (x y : List ℕ) → AreReplies spoken limit ls x → AreReplies spoken limit ms y → AreReplies spoken limit (ls ++ ms) (x ++ y)
-  replies_of_two [] ms x y first second = subst (λ l. AreReplies spoken limit ms (l ++ y)) (sym first) second
-  replies_of_two (l ∷ ls) ms x y first second =
-      (first.0, first.1 ++ y, first.2, replies_of_two ls ms first.1 y first.3 second, ap (λ (t : List ℕ). t ++ y) first.4 ∙ append_assoc first.0 first.1 y)
+-- ---- replies, one list behind another
 
-  pub replies_alone : (l x : List ℕ) → IsReply spoken limit l x → AreReplies spoken limit (l ∷ []) x
-  replies_alone l x reply = (x, [], reply, refl, sym (append-nil x))
+pub quit_longer : (ls ms : List (List ℕ)) → HasQuit ls → HasQuit (ls ++ ms)
+quit_longer [] ms stops = absurd stops
+quit_longer (l ∷ ls) ms (inl here) = inl here
+quit_longer (l ∷ ls) ms (inr later) = inr (quit_longer ls ms later)
+
+quit_behind : (ls ms : List (List ℕ)) → HasQuit ms → HasQuit (ls ++ ms)
+quit_behind [] ms stops = stops
+quit_behind (l ∷ ls) ms stops = inr (quit_behind ls ms stops)
+
+module _ (s : Grounds) where
+  abbrev Go : session.State → List (List ℕ) → List ℕ → session.State → Type 0
+  Go st ls text end = Answered solved lines_with_commands s st ls text end
+
+  abbrev End : session.State → List (List ℕ) → List ℕ → Type 0
+  End st ls text = Replied solved lines_with_commands s st ls text true
+
+  go_on : (st mid end : session.State) (ls ms : List (List ℕ)) (x y : List ℕ) → Go st ls x mid → Go mid ms y end → Go st (ls ++ ms) (x ++ y) end
+  go_on st mid end [] ms x y first second = subst (λ l. Go st ms (l ++ y) end) (sym first.0) (subst (λ m. Go m ms y end) first.1 second)
+  go_on st mid end (l ∷ ls) ms x y first second =
+      (first.0, first.1, first.2, first.3 ++ y, first.4, go_on first.2 mid end ls ms first.3 y first.5 second, ap (λ (t : List ℕ). t ++ y) first.6 ∙ append_assoc first.1 first.3 y)
+
+  end_behind : (st mid : session.State) (ls ms : List (List ℕ)) (x y : List ℕ) → Go st ls x mid → End mid ms y → End st (ls ++ ms) (x ++ y)
+  end_behind st mid [] ms x y first second = subst (λ l. End st ms (l ++ y)) (sym first.0) (subst (λ m. End m ms y) first.1 second)
+  end_behind st mid (l ∷ ls) ms x y first second =
+      inr (first.0, first.1, first.2, first.3 ++ y, first.4, end_behind first.2 mid ls ms first.3 y first.5 second, ap (λ (t : List ℕ). t ++ y) first.6 ∙ append_assoc first.1 first.3 y)
+
+  -- what stands behind the line that ends the session does not matter
+  end_longer : (st : session.State) (ls ms : List (List ℕ)) (x : List ℕ) → End st ls x → End st (ls ++ ms) x
+  end_longer st [] ms x h = let e : true ≡ false = h.1 in cc
+  end_longer st (l ∷ ls) ms x (inl h) = inl h
+  end_longer st (l ∷ ls) ms x (inr h) = inr (h.0, h.1, h.2, h.3, h.4, end_longer h.2 ls ms h.3 h.5, h.6)
+
+  alone : (st end : session.State) (l x : List ℕ) → (IsQuit lines_with_commands l → ⊥) → IsLineReply solved lines_with_commands s st l x end → Go st (l ∷ []) x end
+  alone st end l x other reply = (other, x, end, [], reply, (refl, refl), sym (append-nil x))
 
   -- the first line is another with the same replies
   module _ (xs ys : List ℕ) (same : take 4098 xs ≡ take 4098 ys) (ls : List (List ℕ)) where
-    replies_same : (text : List ℕ) → AreReplies spoken limit (without_cr xs ∷ ls) text → AreReplies spoken limit (without_cr ys ∷ ls) text
-    replies_same text r = (r.0, r.1, same_reply xs ys r.0 same r.2, r.3, r.4)
+    go_same : (st end : session.State) (text : List ℕ) → Go st (without_cr xs ∷ ls) text end → Go st (without_cr ys ∷ ls) text end
+    go_same st end text h = (λ stops. h.0 (same_quit ys xs (sym same) stops), h.1, h.2, h.3, same_reply s st h.2 xs ys h.1 same h.4, h.5, h.6)
 
-    pub answered_same : (a b : Option (List ℕ)) → HasAnswered spoken limit (without_cr xs ∷ ls) a b → HasAnswered spoken limit (without_cr ys ∷ ls) a b
-    answered_same a b h = record { text = h.text; replies = replies_same h.text h.replies; sent = h.sent }
+    end_same : (st : session.State) (text : List ℕ) → End st (without_cr xs ∷ ls) text → End st (without_cr ys ∷ ls) text
+    end_same st text (inl h) = inl (same_quit xs ys same h.0, h.1, h.2)
+    end_same st text (inr h) = inr (λ stops. h.0 (same_quit ys xs (sym same) stops), h.1, h.2, h.3, same_reply s st h.2 xs ys h.1 same h.4, h.5, h.6)
 
-    begun_from : (a b : Option (List ℕ)) (some others : List (List ℕ)) (text : List ℕ) → without_cr xs ∷ ls ≡ some ++ others → AreReplies spoken limit some text → AppendsFront a b text
-        → HasBegun spoken limit (without_cr ys ∷ ls) a b
-    begun_from a b [] others text split replies front = record { some = []; others = without_cr ys ∷ ls; split = refl; text = text; replies = replies; front = front }
-    begun_from a b (l ∷ some) others text split replies front =
+-- ---- what reached the sink
+
+module _ (spoken : Spoken) where
+  -- the first line is another with the same replies
+  module _ (xs ys : List ℕ) (same : take 4098 xs ≡ take 4098 ys) (ls : List (List ℕ)) (st : State) (a b : Option (List ℕ)) where
+    pub answered_same : (end : State) → HasAnswered spoken st (without_cr xs ∷ ls) end a b → HasAnswered spoken st (without_cr ys ∷ ls) end a b
+    answered_same end h = record {
+      text = h.text;
+      replies = λ N agrees. go_same (grounds N spoken) xs ys same ls (state_seen st) (state_seen end) h.text (h.replies N agrees);
+      sent = h.sent;
+    }
+
+    quit_same : HasQuit (without_cr xs ∷ ls) → HasQuit (without_cr ys ∷ ls)
+    quit_same (inl here) = inl (same_quit xs ys same here)
+    quit_same (inr later) = inr later
+
+    pub ended_same : HasEnded spoken st (without_cr xs ∷ ls) a b → HasEnded spoken st (without_cr ys ∷ ls) a b
+    ended_same h = record {
+      text = h.text;
+      replies = λ N agrees. end_same (grounds N spoken) xs ys same ls (state_seen st) h.text (h.replies N agrees);
+      sent = h.sent;
+      quit = quit_same h.quit;
+    }
+
+    begun_from : (some others : List (List ℕ)) (text : List ℕ) (end : State) → without_cr xs ∷ ls ≡ some ++ others
+        → ((N : Numbering) → AgreesWith N spoken.texts → Answered solved lines_with_commands (grounds N spoken) (state_seen st) some text (state_seen end)) → AppendsFront a b text
+        → HasBegun spoken st (without_cr ys ∷ ls) a b
+    begun_from [] others text end split replies front = record { some = []; others = without_cr ys ∷ ls; split = refl; text = text; end = end; replies = replies; front = front }
+    begun_from (l ∷ some) others text end split replies front =
         let first : l ≡ without_cr xs = cc in
         let rest : ls ≡ some ++ others = cc in
         record {
@@ -87,53 +149,88 @@ module _ (spoken : Spoken) (limit : ℕ) where
           others = others;
           split = ap (λ (t : List (List ℕ)). without_cr ys ∷ t) rest;
           text = text;
-          replies = (replies.0, replies.1, same_reply xs ys replies.0 same (subst (λ t. IsReply spoken limit t replies.0) first replies.2), replies.3, replies.4);
+          end = end;
+          replies = λ N agrees. go_same (grounds N spoken) xs ys same some (state_seen st) (state_seen end) text
+              (subst (λ t. Answered solved lines_with_commands (grounds N spoken) (state_seen st) (t ∷ some) text (state_seen end)) first (replies N agrees));
           front = front;
         }
 
-    pub begun_same : (a b : Option (List ℕ)) → HasBegun spoken limit (without_cr xs ∷ ls) a b → HasBegun spoken limit (without_cr ys ∷ ls) a b
-    begun_same a b h = begun_from a b h.some h.others h.text h.split h.replies h.front
+    pub begun_same : HasBegun spoken st (without_cr xs ∷ ls) a b → HasBegun spoken st (without_cr ys ∷ ls) a b
+    begun_same h = begun_from h.some h.others h.text h.end h.split h.replies h.front
 
-  -- ---- what reached the sink
+  pub answered_none : (st : State) (a : Option (List ℕ)) → HasAnswered spoken st [] st a a
+  answered_none st a = record { text = []; replies = λ N agrees. (refl, refl); sent = Appends-nil a }
 
-  pub answered_none : (a : Option (List ℕ)) → HasAnswered spoken limit [] a a
-  answered_none a = record { text = []; replies = refl; sent = Appends-nil a }
+  pub begun_none : (st : State) (ls : List (List ℕ)) (a : Option (List ℕ)) → HasBegun spoken st ls a a
+  begun_none st ls a = record { some = []; others = ls; split = refl; text = []; end = st; replies = λ N agrees. (refl, refl); front = ([], sent_none a []) }
 
-  pub answered_one : (l x : List ℕ) (a b : Option (List ℕ)) → IsReply spoken limit l x → Appends a b x → HasAnswered spoken limit (l ∷ []) a b
-  answered_one l x a b reply sent = record { text = x; replies = replies_alone l x reply; sent = sent }
+  pub ended_one : (st : State) (l : List ℕ) (a : Option (List ℕ)) → IsQuit lines_with_commands l → HasEnded spoken st (l ∷ []) a a
+  ended_one st l a stops = record { text = []; replies = λ N agrees. inl (stops, refl, refl); sent = Appends-nil a; quit = inl stops }
 
-  pub answered_two : (ls ms : List (List ℕ)) (a b c : Option (List ℕ)) → HasAnswered spoken limit ls a b → HasAnswered spoken limit ms b c → HasAnswered spoken limit (ls ++ ms) a c
-  answered_two ls ms a b c h k = record {
-    text = h.text ++ k.text;
-    replies = replies_of_two ls ms h.text k.text h.replies k.replies;
-    sent = Appends-trans a b c h.text k.text h.sent k.sent;
-  }
+  -- one line is answered
+  module _ (st end : State) (l x : List ℕ) (a b : Option (List ℕ)) (other : IsQuit lines_with_commands l → ⊥)
+      (reply : (N : Numbering) → AgreesWith N spoken.texts → IsLineReply solved lines_with_commands (grounds N spoken) (state_seen st) l x (state_seen end)) where
+    pub answered_one : Appends a b x → HasAnswered spoken st (l ∷ []) end a b
+    answered_one sent = record { text = x; replies = λ N agrees. alone (grounds N spoken) (state_seen st) (state_seen end) l x other (reply N agrees); sent = sent }
 
-  pub begun_none : (ls : List (List ℕ)) (a : Option (List ℕ)) → HasBegun spoken limit ls a a
-  begun_none ls a = record { some = []; others = ls; split = refl; text = []; replies = refl; front = ([], sent_none a []) }
+    pub begun_one : AppendsFront a b x → HasBegun spoken st (l ∷ []) a b
+    begun_one front = record {
+      some = l ∷ [];
+      others = [];
+      split = refl;
+      text = x;
+      end = end;
+      replies = λ N agrees. alone (grounds N spoken) (state_seen st) (state_seen end) l x other (reply N agrees);
+      front = front;
+    }
 
-  pub begun_one : (l x : List ℕ) (a b : Option (List ℕ)) → IsReply spoken limit l x → AppendsFront a b x → HasBegun spoken limit (l ∷ []) a b
-  begun_one l x a b reply front = record { some = l ∷ []; others = []; split = refl; text = x; replies = replies_alone l x reply; front = front }
+  pub begun_of_answered : (st end : State) (ls : List (List ℕ)) (a b : Option (List ℕ)) → HasAnswered spoken st ls end a b → HasBegun spoken st ls a b
+  begun_of_answered st end ls a b h =
+      record { some = ls; others = []; split = sym (append-nil ls); text = h.text; end = end; replies = h.replies; front = ([], sent_whole a b h.text h.sent) }
 
-  pub begun_of_answered : (ls : List (List ℕ)) (a b : Option (List ℕ)) → HasAnswered spoken limit ls a b → HasBegun spoken limit ls a b
-  begun_of_answered ls a b h = record { some = ls; others = []; split = sym (append-nil ls); text = h.text; replies = h.replies; front = ([], sent_whole a b h.text h.sent) }
-
-  pub begun_longer : (ls ms : List (List ℕ)) (a b : Option (List ℕ)) → HasBegun spoken limit ls a b → HasBegun spoken limit (ls ++ ms) a b
-  begun_longer ls ms a b h = record {
+  pub begun_longer : (st : State) (ls ms : List (List ℕ)) (a b : Option (List ℕ)) → HasBegun spoken st ls a b → HasBegun spoken st (ls ++ ms) a b
+  begun_longer st ls ms a b h = record {
     some = h.some;
     others = h.others ++ ms;
     split = ap (λ (l : List (List ℕ)). l ++ ms) h.split ∙ append_assoc h.some h.others ms;
     text = h.text;
+    end = h.end;
     replies = h.replies;
     front = h.front;
   }
 
-  pub begun_behind : (ls ms : List (List ℕ)) (a b c : Option (List ℕ)) → HasAnswered spoken limit ls a b → HasBegun spoken limit ms b c → HasBegun spoken limit (ls ++ ms) a c
-  begun_behind ls ms a b c h k = record {
-    some = ls ++ k.some;
-    others = k.others;
-    split = ap (λ (l : List (List ℕ)). ls ++ l) k.split ∙ sym (append_assoc ls k.some k.others);
-    text = h.text ++ k.text;
-    replies = replies_of_two ls k.some h.text k.text h.replies k.replies;
-    front = front_behind a b c h.text k.text h.sent k.front;
+  pub ended_longer : (st : State) (ls ms : List (List ℕ)) (a b : Option (List ℕ)) → HasEnded spoken st ls a b → HasEnded spoken st (ls ++ ms) a b
+  ended_longer st ls ms a b h = record {
+    text = h.text;
+    replies = λ N agrees. end_longer (grounds N spoken) (state_seen st) ls ms h.text (h.replies N agrees);
+    sent = h.sent;
+    quit = quit_longer ls ms h.quit;
   }
+
+  -- behind lines that are answered
+  module _ (st mid : State) (ls ms : List (List ℕ)) (a b c : Option (List ℕ)) (h : HasAnswered spoken st ls mid a b) where
+    pub answered_behind : (end : State) → HasAnswered spoken mid ms end b c → HasAnswered spoken st (ls ++ ms) end a c
+    answered_behind end k = record {
+      text = h.text ++ k.text;
+      replies = λ N agrees. go_on (grounds N spoken) (state_seen st) (state_seen mid) (state_seen end) ls ms h.text k.text (h.replies N agrees) (k.replies N agrees);
+      sent = Appends-trans a b c h.text k.text h.sent k.sent;
+    }
+
+    pub ended_behind : HasEnded spoken mid ms b c → HasEnded spoken st (ls ++ ms) a c
+    ended_behind k = record {
+      text = h.text ++ k.text;
+      replies = λ N agrees. end_behind (grounds N spoken) (state_seen st) (state_seen mid) ls ms h.text k.text (h.replies N agrees) (k.replies N agrees);
+      sent = Appends-trans a b c h.text k.text h.sent k.sent;
+      quit = quit_behind ls ms k.quit;
+    }
+
+    pub begun_behind : HasBegun spoken mid ms b c → HasBegun spoken st (ls ++ ms) a c
+    begun_behind k = record {
+      some = ls ++ k.some;
+      others = k.others;
+      split = ap (λ (l : List (List ℕ)). ls ++ l) k.split ∙ sym (append_assoc ls k.some k.others);
+      text = h.text ++ k.text;
+      end = k.end;
+      replies = λ N agrees. go_on (grounds N spoken) (state_seen st) (state_seen mid) (state_seen k.end) ls k.some h.text k.text (h.replies N agrees) (k.replies N agrees);
+      front = front_behind a b c h.text k.text h.sent k.front;
+    }

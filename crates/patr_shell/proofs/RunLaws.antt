@@ -1,22 +1,23 @@
 -- Laws of the definitions, as they are used here.
-use Rattle.patr_model.specs.Plain.{plain}
-use Rattle.patr_model.specs.Built.{sentences_alone}
-use Rattle.patr_model.specs.Renaming.{RunsIgnoreNumbers}
-use Rattle.patr_model.specs.Openings.{OpeningsAreOne, SentenceRepliesBegin, TablesAreNumbered}
+use Rattle.patr_model.specs.Solved.{solved}
+use Rattle.patr_model.specs.Notations.{lines_with_commands}
+use Rattle.patr_model.specs.Built.{stage, built}
+use Rattle.patr_model.specs.Renaming.{IgnoresNumbers}
+use Rattle.patr_model.specs.Openings.{HasOneOpening, SessionRepliesBegin, TablesAreNumbered}
 use Rattle.patr_model.proofs.Canonical.{least_texts}
 use Rattle.patr_model.proofs.Lines.{replies_begin}
 use Rattle.patr_model.proofs.Numberings.{tables_are_numbered}
-use Rattle.patr_model.proofs.OneRun.{openings_are_one}
-use Rattle.patr_model.proofs.RenamedRuns.{built_same}
+use Rattle.patr_model.proofs.OneRun.{stage_openings}
+use Rattle.patr_model.proofs.RenamedRuns.{stage_same}
 
-pub one_opening : OpeningsAreOne
-one_opening = openings_are_one
+pub one_opening : HasOneOpening built
+one_opening = stage_openings stage lines_with_commands
 
-pub sentences_begin : SentenceRepliesBegin
-sentences_begin = λ s. replies_begin (λ g cat. plain g) sentences_alone s (least_texts s) (λ st c x y m n. absurd m)
+pub sentences_begin : SessionRepliesBegin
+sentences_begin = λ s. replies_begin solved lines_with_commands s (least_texts s) (λ st c x y m n. absurd m)
 
 pub numbered_tables : TablesAreNumbered
 numbered_tables = tables_are_numbered
 
-pub any_numbering : RunsIgnoreNumbers
-any_numbering = built_same
+pub any_numbering : IgnoresNumbers built
+any_numbering = stage_same stage lines_with_commands (λ s s' same st c x m. m) (λ s st c x y m n. absurd m)

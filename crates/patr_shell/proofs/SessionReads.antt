@@ -1,31 +1,43 @@
 -- A read of a session, and what is answered then.
-use Rattle.std.proofs.Common.{◌≡◌, ◌<◌, ◌≤◌, ◌-◌, ◌+◌, ℕ, List, ◌++◌, Option, IfSome, length, take, min, sym, ◌∙◌, ap, subst, arith}
+use Rattle.std.proofs.Common.{◌≡◌, ◌<◌, ◌≤◌, ◌-◌, ◌+◌, ℕ, List, ◌++◌, Option, None, Some, IfSome, length, take, drop, min, sym, ◌∙◌, ap, subst, arith, append_assoc, take-append-drop}
 use Rattle.std.proofs.lemmas.List.{length-take-le}
 use Rattle.std.specs.Io.KnownBytes.{Appends, Consumes, IsAtEnd}
 use Rattle.std.proofs.KnownBytes.{Consumes-trans}
 use Rattle.patr_model.specs.Session.{whole_lines_of}
-use Rattle.patr_model.specs.Run.{Done, InputTooLong}
+use Rattle.patr_model.specs.Run.{Ending, Done, InputTooLong}
 use Rattle.patr_shell.specs.Spoken.{Spoken}
 use Rattle.patr_shell.specs.Sent.{AppendsFront}
-use Rattle.patr_shell.specs.Answering.{last_piece, last_line, too_long_line, HasAnswered, HasBegun, HasWrittenSession, HasBegunSession}
-use Rattle.patr_shell.proofs.SessionStanding.{Stands, stands_piece, stands_end, begun_piece, begun_end, begun_so_far}
-use Rattle.patr_shell.proofs.SessionTexts.{told, told_all, take_take, most, within_of, within_piece, at_limit_of, past_limit, front_within, front_whole, front_past, written_whole, written_past}
+use Rattle.patr_shell.specs.Answering.{last_piece, last_line, too_long_line, HasQuit, HasAnswered, HasEnded, HasTold, HasBegun, HasTakenQuit, HasWrittenSession, HasBegunSession}
+use Rattle.patr_shell.specs.declared.state.State.{State}
+use Rattle.patr_shell.specs.declared.session.Next.{Next}
+use Rattle.patr_shell.specs.declared.session.Next.TheVariants.{GoesOn, Ends}
+use Rattle.patr_shell.proofs.Cuts.{lines_of_two}
+use Rattle.patr_shell.proofs.Replying.{quit_longer}
+use Rattle.patr_shell.proofs.SessionStanding.{Stands, stands_piece, stands_end, ended_piece, ended_end, begun_piece, begun_end, begun_so_far}
+use Rattle.patr_shell.proofs.SessionTexts.{told, told_all, take_take, most, within_of, within_piece, at_limit_of, past_limit, front_within, front_whole, front_written, front_past, written_whole, written_ended, written_quit, written_past}
 
-module _ (spoken : Spoken) (limit : ℕ) (bytes held : List ℕ) (a b : Option (List ℕ)) (stands : Stands spoken limit bytes held a b) (start : Option (List ℕ)) (short : length bytes ≤ most) where
+-- a text that is written is a front of each
+pub front_told : (spoken : Spoken) (st : State) (ending : Ending) (start a c : Option (List ℕ)) → IfSome start (λ input. HasWrittenSession spoken st input ending a c) → IfSome start (λ input. HasBegunSession spoken st input a c)
+front_told spoken st ending None a c h = tt
+front_told spoken st ending (Some input) a c h = front_written spoken st input ending a c h
+
+module _ (spoken : Spoken) (st mid : State) (bytes held : List ℕ) (a b : Option (List ℕ)) (stands : Stands spoken st mid bytes held a b) (start : Option (List ℕ)) (short : length bytes ≤ most) where
   -- nothing more is read
-  pub stopped : (now : Option (List ℕ)) → Consumes start now bytes → IfSome start (λ input. HasBegunSession spoken limit input a b)
-  stopped now read = told start now bytes (λ input. HasBegunSession spoken limit input a b) read
-      (λ rest. let at = within_of bytes rest short in front_within spoken limit (bytes ++ rest) bytes at.0 a b (begun_so_far spoken limit bytes held a b stands) at.1)
+  pub stopped : (now : Option (List ℕ)) → Consumes start now bytes → IfSome start (λ input. HasBegunSession spoken st input a b)
+  stopped now read = told start now bytes (λ input. HasBegunSession spoken st input a b) read
+      (λ rest. let at = within_of bytes rest short in front_within spoken st (bytes ++ rest) bytes at.0 a b (begun_so_far spoken st mid bytes held a b stands) at.1)
 
   -- the input is at its end
   module _ (now : Option (List ℕ)) (read : Consumes start now bytes) (end : IsAtEnd now) (c : Option (List ℕ)) where
-    pub ended_whole : HasAnswered spoken limit (last_line held) b c → IfSome start (λ input. HasWrittenSession spoken limit input Done a c)
-    ended_whole answered = told_all start now bytes (λ input. HasWrittenSession spoken limit input Done a c) read end
-        (written_whole spoken limit bytes a c short (stands_end spoken limit bytes held a b stands c answered))
+    pub ended_whole : (goes : Next) (next : State) → HasTold spoken mid (last_line held) goes next b c → IfSome start (λ input. HasWrittenSession spoken st input Done a c)
+    ended_whole GoesOn next answered = told_all start now bytes (λ input. HasWrittenSession spoken st input Done a c) read end
+        (written_whole spoken st next bytes a c short (stands_end spoken st mid bytes held a b stands c next answered))
+    ended_whole Ends next stops = told_all start now bytes (λ input. HasWrittenSession spoken st input Done a c) read end
+        (written_ended spoken st bytes a c short (ended_end spoken st mid bytes held a b stands c stops))
 
-    pub ended_front : HasBegun spoken limit (last_line held) b c → IfSome start (λ input. HasBegunSession spoken limit input a c)
-    ended_front begun = told_all start now bytes (λ input. HasBegunSession spoken limit input a c) read end
-        (front_whole spoken limit bytes a c short (begun_end spoken limit bytes held a b stands c begun))
+    pub ended_front : HasBegun spoken mid (last_line held) b c → IfSome start (λ input. HasBegunSession spoken st input a c)
+    ended_front begun = told_all start now bytes (λ input. HasBegunSession spoken st input a c) read end
+        (front_whole spoken st bytes a c short (begun_end spoken st mid bytes held a b stands c begun))
 
   -- a piece is read, of which this much is within the limit
   module _ (before now : Option (List ℕ)) (first : Consumes start before bytes) (buf : List ℕ) (count within : ℕ) (next : Consumes before now (take count buf)) (bound : count ≤ length buf)
@@ -39,19 +51,42 @@ module _ (spoken : Spoken) (limit : ℕ) (bytes held : List ℕ) (a b : Option (
     long : length (take count buf) ≡ count
     long = length-take-le count buf bound
 
-    pub begun_read : (c : Option (List ℕ)) → HasBegun spoken limit (whole_lines_of (held ++ take within buf)) b c → IfSome start (λ input. HasBegunSession spoken limit input a c)
-    begun_read c begun = told start now (bytes ++ take count buf) (λ input. HasBegunSession spoken limit input a c) read
+    pub begun_read : (c : Option (List ℕ)) → HasBegun spoken mid (whole_lines_of (held ++ take within buf)) b c → IfSome start (λ input. HasBegunSession spoken st input a c)
+    begun_read c begun = told start now (bytes ++ take count buf) (λ input. HasBegunSession spoken st input a c) read
         (λ rest.
         let at = within_piece bytes (take count buf) rest within (omega arith) (omega (arith, long)) in
-        let here = subst (λ l. HasBegun spoken limit (whole_lines_of (held ++ l)) b c) (sym part) begun in
-        front_within spoken limit ((bytes ++ take count buf) ++ rest) (bytes ++ take within (take count buf)) at.0 a c (begun_piece spoken limit bytes held a b stands (take within (take count buf)) c here) at.1)
+        let here = subst (λ l. HasBegun spoken mid (whole_lines_of (held ++ l)) b c) (sym part) begun in
+        front_within spoken st ((bytes ++ take count buf) ++ rest) (bytes ++ take within (take count buf)) at.0 a c (begun_piece spoken st mid bytes held a b stands (take within (take count buf)) c here) at.1)
 
-    module _ (c : Option (List ℕ)) (answered : HasAnswered spoken limit (whole_lines_of (held ++ take within buf)) b c) (left : List ℕ) (kept : left ≡ take 4098 (last_piece (held ++ take within buf))) where
-      pub stands_read : count ≤ within → Stands spoken limit (bytes ++ take count buf) left a c
+    -- a line of it ends the session
+    module _ (c : Option (List ℕ)) (stops : HasEnded spoken mid (whole_lines_of (held ++ take within buf)) b c) where
+      all_ended : HasEnded spoken st (whole_lines_of (bytes ++ take within (take count buf))) a c
+      all_ended = ended_piece spoken st mid bytes held a b stands (take within (take count buf)) c
+          (subst (λ l. HasEnded spoken mid (whole_lines_of (held ++ l)) b c) (sym part) stops)
+
+      pub quit_whole : IfSome start (λ input. HasWrittenSession spoken st input Done a c)
+      quit_whole = told start now (bytes ++ take count buf) (λ input. HasWrittenSession spoken st input Done a c) read
+          (λ rest.
+          let at = within_piece bytes (take count buf) rest within (omega arith) (omega (arith, long)) in
+          written_quit spoken st ((bytes ++ take count buf) ++ rest) (bytes ++ take within (take count buf)) at.0 a c all_ended at.1)
+
+      pub quit_taken : HasTakenQuit start now
+      quit_taken =
+          let front = bytes ++ take within (take count buf) in
+          let rest = drop within (take count buf) in
+          let whole : bytes ++ take count buf ≡ front ++ rest =
+          ap (λ (l : List ℕ). bytes ++ l) (sym (take-append-drop within (take count buf))) ∙ sym (append_assoc bytes (take within (take count buf)) rest) in (
+            bytes ++ take count buf,
+            read,
+            subst HasQuit (sym (ap whole_lines_of whole ∙ lines_of_two front rest)) (quit_longer (whole_lines_of front) (whole_lines_of (last_piece front ++ rest)) all_ended.quit),
+          )
+
+    module _ (after : State) (c : Option (List ℕ)) (answered : HasAnswered spoken mid (whole_lines_of (held ++ take within buf)) after b c) (left : List ℕ) (kept : left ≡ take 4098 (last_piece (held ++ take within buf))) where
+      pub stands_read : count ≤ within → Stands spoken st after (bytes ++ take count buf) left a c
       stands_read all =
           let same : within ≡ count = omega arith in
-          stands_piece spoken limit bytes held a b stands (take count buf) left c
-          (subst (λ n. HasAnswered spoken limit (whole_lines_of (held ++ take n buf)) b c) same answered)
+          stands_piece spoken st mid bytes held a b stands (take count buf) c after left
+          (subst (λ n. HasAnswered spoken mid (whole_lines_of (held ++ take n buf)) after b c) same answered)
           (kept ∙ ap (λ (n : ℕ). take 4098 (last_piece (held ++ take n buf))) same)
 
       -- more is read than the limit
@@ -65,15 +100,15 @@ module _ (spoken : Spoken) (limit : ℕ) (bytes held : List ℕ) (a b : Option (
         is_past : (rest : List ℕ) → most < length ((bytes ++ take count buf) ++ rest)
         is_past rest = past_limit bytes (take count buf) rest within (omega arith) (omega (arith, long)) full (omega (arith, long))
 
-        all_answered : (rest : List ℕ) → HasAnswered spoken limit (whole_lines_of (take most ((bytes ++ take count buf) ++ rest))) a c
+        all_answered : (rest : List ℕ) → HasAnswered spoken st (whole_lines_of (take most ((bytes ++ take count buf) ++ rest))) after a c
         all_answered rest =
-            subst (λ l. HasAnswered spoken limit (whole_lines_of l) a c) (sym (limit_reached rest))
-            (stands_piece spoken limit bytes held a b stands (take within buf) left c answered kept).answered
+            subst (λ l. HasAnswered spoken st (whole_lines_of l) after a c) (sym (limit_reached rest))
+            (stands_piece spoken st mid bytes held a b stands (take within buf) c after left answered kept).answered
 
-        pub past_whole : (d : Option (List ℕ)) → Appends c d too_long_line → IfSome start (λ input. HasWrittenSession spoken limit input InputTooLong a d)
-        past_whole d line = told start now (bytes ++ take count buf) (λ input. HasWrittenSession spoken limit input InputTooLong a d) read
-            (λ rest. written_past spoken limit ((bytes ++ take count buf) ++ rest) a c d (is_past rest) (all_answered rest) line)
+        pub past_whole : (d : Option (List ℕ)) → Appends c d too_long_line → IfSome start (λ input. HasWrittenSession spoken st input InputTooLong a d)
+        past_whole d line = told start now (bytes ++ take count buf) (λ input. HasWrittenSession spoken st input InputTooLong a d) read
+            (λ rest. written_past spoken st after ((bytes ++ take count buf) ++ rest) a c d (is_past rest) (all_answered rest) line)
 
-        pub past_front : (d : Option (List ℕ)) → AppendsFront c d too_long_line → IfSome start (λ input. HasBegunSession spoken limit input a d)
-        past_front d line = told start now (bytes ++ take count buf) (λ input. HasBegunSession spoken limit input a d) read
-            (λ rest. front_past spoken limit ((bytes ++ take count buf) ++ rest) a c d (is_past rest) (all_answered rest) line)
+        pub past_front : (d : Option (List ℕ)) → AppendsFront c d too_long_line → IfSome start (λ input. HasBegunSession spoken st input a d)
+        past_front d line = told start now (bytes ++ take count buf) (λ input. HasBegunSession spoken st input a d) read
+            (λ rest. front_past spoken st after ((bytes ++ take count buf) ++ rest) a c d (is_past rest) (all_answered rest) line)

@@ -3,25 +3,27 @@ use Rattle.std.proofs.Common.{◌≡◌, ◌≤◌, ◌<◌, ℕ, List, [], ◌�
 use Rattle.std.proofs.lemmas.List.{length-take}
 use Rattle.patr_model.specs.Session.{without_cr, without_empty, whole_lines_from, whole_lines_of, lines_of}
 use Rattle.patr_shell.specs.Spoken.{Spoken}
-use Rattle.patr_shell.specs.Answering.{HasNoFeed, last_of, last_piece, last_line, HasAnswered, HasBegun}
+use Rattle.patr_shell.specs.Answering.{HasNoFeed, last_of, last_piece, last_line, HasAnswered, HasEnded, HasBegun}
+use Rattle.patr_shell.specs.declared.state.State.{State}
 use Rattle.patr_shell.proofs.Cuts.{cut, lines_behind, piece_behind, piece_is_free, take_is_free, lines_of_two, piece_of_two, lines_are}
 use Rattle.patr_shell.proofs.Ends.{kept_behind, take_once}
-use Rattle.patr_shell.proofs.Replying.{one_or_long, answered_none, answered_two, answered_same, begun_same, begun_behind, begun_of_answered}
+use Rattle.patr_shell.proofs.Replying.{one_or_long, answered_none, answered_behind, answered_same, ended_behind, ended_same, begun_same, begun_behind, begun_of_answered}
 
 -- the lines so far are answered, and what stands behind them is held as far as it matters
-pub record Stands (spoken : Spoken) (limit : ℕ) (bytes held : List ℕ) (a b : Option (List ℕ)) : Type 0 where
+pub record Stands (spoken : Spoken) (st mid : State) (bytes held : List ℕ) (a b : Option (List ℕ)) : Type 0 where
   pub kept : held ≡ take 4098 (last_piece bytes)
-  pub answered : HasAnswered spoken limit (whole_lines_of bytes) a b
+  pub answered : HasAnswered spoken st (whole_lines_of bytes) mid a b
 
 -- a line that is not empty
 some_line : (l : List ℕ) → 0 < length l → without_empty (l ∷ []) ≡ l ∷ []
 some_line [] some = absurd (omega arith)
 some_line (b ∷ bs) some = refl
 
-last_line_some : (xs : List ℕ) → 0 < length (without_cr xs) → last_line xs ≡ without_cr xs ∷ []
+pub last_line_some : (xs : List ℕ) → 0 < length (without_cr xs) → last_line xs ≡ without_cr xs ∷ []
 last_line_some xs some = some_line (without_cr xs) some
 
-module _ (spoken : Spoken) (limit : ℕ) where
+-- What holds of lines, and so of others whose first is the same as far as it matters.
+module _ (P : List (List ℕ) → Type 0) (like : (xs ys : List ℕ) → take 4098 xs ≡ take 4098 ys → (ls : List (List ℕ)) → P (without_cr xs ∷ ls) → P (without_cr ys ∷ ls)) where
   -- lines go on alike behind bytes of which what matters is the same
   module _ (part held : List ℕ) (free : HasNoFeed part) (is : held ≡ take 4098 part) (piece : List ℕ) where
     held_free : HasNoFeed held
@@ -30,57 +32,43 @@ module _ (spoken : Spoken) (limit : ℕ) where
     same : (ys : List ℕ) → take 4098 (held ++ ys) ≡ take 4098 (part ++ ys)
     same ys = ap (λ (l : List ℕ). take 4098 (l ++ ys)) is ∙ kept_behind 4098 part ys
 
-    answered_from : (first : List ℕ) (rest : List (List ℕ)) (a b : Option (List ℕ)) → HasAnswered spoken limit (whole_lines_from (held ++ first) rest) a b → HasAnswered spoken limit (whole_lines_from (part ++ first) rest) a b
-    answered_from first [] a b h = h
-    answered_from first (next ∷ rest) a b h = answered_same spoken limit (held ++ first) (part ++ first) (same first) (whole_lines_from next rest) a b h
+    lines_from : (first : List ℕ) (rest : List (List ℕ)) → P (whole_lines_from (held ++ first) rest) → P (whole_lines_from (part ++ first) rest)
+    lines_from first [] h = h
+    lines_from first (next ∷ rest) h = like (held ++ first) (part ++ first) (same first) (whole_lines_from next rest) h
 
-    begun_from : (first : List ℕ) (rest : List (List ℕ)) (a b : Option (List ℕ)) → HasBegun spoken limit (whole_lines_from (held ++ first) rest) a b → HasBegun spoken limit (whole_lines_from (part ++ first) rest) a b
-    begun_from first [] a b h = h
-    begun_from first (next ∷ rest) a b h = begun_same spoken limit (held ++ first) (part ++ first) (same first) (whole_lines_from next rest) a b h
-
-    piece_from : (first : List ℕ) (rest : List (List ℕ)) → take 4098 (last_of (held ++ first) rest) ≡ take 4098 (last_of (part ++ first) rest)
-    piece_from first [] = same first
-    piece_from first (next ∷ rest) = refl
-
-    pub answered_with : (a b : Option (List ℕ)) → HasAnswered spoken limit (whole_lines_of (held ++ piece)) a b → HasAnswered spoken limit (whole_lines_of (part ++ piece)) a b
-    answered_with a b h =
-        subst (λ l. HasAnswered spoken limit l a b) (sym (lines_behind part free piece))
-        (answered_from (cut piece).first (cut piece).rest a b (subst (λ l. HasAnswered spoken limit l a b) (lines_behind held held_free piece) h))
-
-    pub begun_with : (a b : Option (List ℕ)) → HasBegun spoken limit (whole_lines_of (held ++ piece)) a b → HasBegun spoken limit (whole_lines_of (part ++ piece)) a b
-    begun_with a b h =
-        subst (λ l. HasBegun spoken limit l a b) (sym (lines_behind part free piece))
-        (begun_from (cut piece).first (cut piece).rest a b (subst (λ l. HasBegun spoken limit l a b) (lines_behind held held_free piece) h))
-
-    pub piece_with : take 4098 (last_piece (held ++ piece)) ≡ take 4098 (last_piece (part ++ piece))
-    piece_with =
-        ap (take 4098) (piece_behind held held_free piece)
-        ∙ piece_from (cut piece).first (cut piece).rest
-        ∙ ap (take 4098) (sym (piece_behind part free piece))
+    lines_with : P (whole_lines_of (held ++ piece)) → P (whole_lines_of (part ++ piece))
+    lines_with h = subst P (sym (lines_behind part free piece)) (lines_from (cut piece).first (cut piece).rest (subst P (lines_behind held held_free piece) h))
 
   -- the last line is answered alike
-  module _ (xs ys : List ℕ) (same : take 4098 xs ≡ take 4098 ys) (a b : Option (List ℕ)) where
-    pub last_answered : HasAnswered spoken limit (last_line xs) a b → HasAnswered spoken limit (last_line ys) a b
-    last_answered h = elim (one_or_long xs ys same) [
-      | inl is ↦ subst (λ l. HasAnswered spoken limit (last_line l) a b) is h
-      | inr long ↦
-          subst (λ l. HasAnswered spoken limit l a b) (sym (last_line_some ys (omega (arith, long.1))))
-          (answered_same spoken limit xs ys same [] a b (subst (λ l. HasAnswered spoken limit l a b) (last_line_some xs (omega (arith, long.0))) h))
-    ]
+  last_alike : (xs ys : List ℕ) → take 4098 xs ≡ take 4098 ys → P (last_line xs) → P (last_line ys)
+  last_alike xs ys same h = elim (one_or_long xs ys same) [
+    | inl is ↦ subst (λ l. P (last_line l)) is h
+    | inr long ↦
+        subst P (sym (last_line_some ys (omega (arith, long.1))))
+        (like xs ys same [] (subst P (last_line_some xs (omega (arith, long.0))) h))
+  ]
 
-    pub last_begun : HasBegun spoken limit (last_line xs) a b → HasBegun spoken limit (last_line ys) a b
-    last_begun h = elim (one_or_long xs ys same) [
-      | inl is ↦ subst (λ l. HasBegun spoken limit (last_line l) a b) is h
-      | inr long ↦
-          subst (λ l. HasBegun spoken limit l a b) (sym (last_line_some ys (omega (arith, long.1))))
-          (begun_same spoken limit xs ys same [] a b (subst (λ l. HasBegun spoken limit l a b) (last_line_some xs (omega (arith, long.0))) h))
-    ]
+-- the last piece goes on alike
+module _ (part held : List ℕ) (free : HasNoFeed part) (is : held ≡ take 4098 part) (piece : List ℕ) where
+  held_is_free : HasNoFeed held
+  held_is_free = subst HasNoFeed (sym is) (take_is_free 4098 part free)
 
+  piece_from : (first : List ℕ) (rest : List (List ℕ)) → take 4098 (last_of (held ++ first) rest) ≡ take 4098 (last_of (part ++ first) rest)
+  piece_from first [] = ap (λ (l : List ℕ). take 4098 (l ++ first)) is ∙ kept_behind 4098 part first
+  piece_from first (next ∷ rest) = refl
+
+  piece_with : take 4098 (last_piece (held ++ piece)) ≡ take 4098 (last_piece (part ++ piece))
+  piece_with =
+      ap (take 4098) (piece_behind held held_is_free piece)
+      ∙ piece_from (cut piece).first (cut piece).rest
+      ∙ ap (take 4098) (sym (piece_behind part free piece))
+
+module _ (spoken : Spoken) (st : State) where
   -- nothing is read yet
-  pub stands_start : (a : Option (List ℕ)) → Stands spoken limit [] [] a a
-  stands_start a = record { kept = refl; answered = answered_none spoken limit a }
+  pub stands_start : (a : Option (List ℕ)) → Stands spoken st st [] [] a a
+  stands_start a = record { kept = refl; answered = answered_none spoken st a }
 
-  module _ (bytes held : List ℕ) (a b : Option (List ℕ)) (stands : Stands spoken limit bytes held a b) where
+  module _ (mid : State) (bytes held : List ℕ) (a b : Option (List ℕ)) (stands : Stands spoken st mid bytes held a b) where
     pub stands_free : HasNoFeed held
     stands_free = subst HasNoFeed (sym stands.kept) (take_is_free 4098 (last_piece bytes) (piece_is_free bytes))
 
@@ -88,36 +76,56 @@ module _ (spoken : Spoken) (limit : ℕ) where
     stands_short = subst (λ l. length l ≤ 4098) (sym stands.kept) (omega (arith, length-take 4098 (last_piece bytes)))
 
     -- a piece is answered
-    pub stands_piece : (piece left : List ℕ) (c : Option (List ℕ)) → HasAnswered spoken limit (whole_lines_of (held ++ piece)) b c → left ≡ take 4098 (last_piece (held ++ piece))
-        → Stands spoken limit (bytes ++ piece) left a c
-    stands_piece piece left c answered is = record {
-      kept = is ∙ piece_with (last_piece bytes) held (piece_is_free bytes) stands.kept piece ∙ ap (take 4098) (sym (piece_of_two bytes piece));
-      answered =
-          subst (λ l. HasAnswered spoken limit l a c) (sym (lines_of_two bytes piece))
-          (answered_two spoken limit (whole_lines_of bytes) (whole_lines_of (last_piece bytes ++ piece)) a b c stands.answered
-          (answered_with (last_piece bytes) held (piece_is_free bytes) stands.kept piece b c answered));
-    }
+    module _ (piece : List ℕ) (c : Option (List ℕ)) where
+      pub stands_piece : (next : State) (left : List ℕ) → HasAnswered spoken mid (whole_lines_of (held ++ piece)) next b c → left ≡ take 4098 (last_piece (held ++ piece))
+          → Stands spoken st next (bytes ++ piece) left a c
+      stands_piece next left answered is = record {
+        kept = is ∙ piece_with (last_piece bytes) held (piece_is_free bytes) stands.kept piece ∙ ap (take 4098) (sym (piece_of_two bytes piece));
+        answered =
+            subst (λ l. HasAnswered spoken st l next a c) (sym (lines_of_two bytes piece))
+            (answered_behind spoken st mid (whole_lines_of bytes) (whole_lines_of (last_piece bytes ++ piece)) a b c stands.answered next
+            (lines_with (λ l. HasAnswered spoken mid l next b c) (λ xs ys same ls h. answered_same spoken xs ys same ls mid b c next h)
+            (last_piece bytes) held (piece_is_free bytes) stands.kept piece answered));
+      }
 
-    -- a piece is answered in part
-    pub begun_piece : (piece : List ℕ) (c : Option (List ℕ)) → HasBegun spoken limit (whole_lines_of (held ++ piece)) b c → HasBegun spoken limit (whole_lines_of (bytes ++ piece)) a c
-    begun_piece piece c begun =
-        subst (λ l. HasBegun spoken limit l a c) (sym (lines_of_two bytes piece))
-        (begun_behind spoken limit (whole_lines_of bytes) (whole_lines_of (last_piece bytes ++ piece)) a b c stands.answered
-        (begun_with (last_piece bytes) held (piece_is_free bytes) stands.kept piece b c begun))
+      -- a line of it ends the session
+      pub ended_piece : HasEnded spoken mid (whole_lines_of (held ++ piece)) b c → HasEnded spoken st (whole_lines_of (bytes ++ piece)) a c
+      ended_piece ended =
+          subst (λ l. HasEnded spoken st l a c) (sym (lines_of_two bytes piece))
+          (ended_behind spoken st mid (whole_lines_of bytes) (whole_lines_of (last_piece bytes ++ piece)) a b c stands.answered
+          (lines_with (λ l. HasEnded spoken mid l b c) (λ xs ys same ls h. ended_same spoken xs ys same ls mid b c h)
+          (last_piece bytes) held (piece_is_free bytes) stands.kept piece ended))
+
+      -- it is answered in part
+      pub begun_piece : HasBegun spoken mid (whole_lines_of (held ++ piece)) b c → HasBegun spoken st (whole_lines_of (bytes ++ piece)) a c
+      begun_piece begun =
+          subst (λ l. HasBegun spoken st l a c) (sym (lines_of_two bytes piece))
+          (begun_behind spoken st mid (whole_lines_of bytes) (whole_lines_of (last_piece bytes ++ piece)) a b c stands.answered
+          (lines_with (λ l. HasBegun spoken mid l b c) (λ xs ys same ls h. begun_same spoken xs ys same ls mid b c h)
+          (last_piece bytes) held (piece_is_free bytes) stands.kept piece begun))
 
     -- no more comes
     kept_same : take 4098 held ≡ take 4098 (last_piece bytes)
     kept_same = ap (take 4098) stands.kept ∙ take_once 4098 (last_piece bytes)
 
-    pub stands_end : (c : Option (List ℕ)) → HasAnswered spoken limit (last_line held) b c → HasAnswered spoken limit (lines_of bytes) a c
-    stands_end c answered =
-        subst (λ l. HasAnswered spoken limit l a c) (sym (lines_are bytes))
-        (answered_two spoken limit (whole_lines_of bytes) (last_line (last_piece bytes)) a b c stands.answered (last_answered held (last_piece bytes) kept_same b c answered))
+    module _ (c : Option (List ℕ)) where
+      pub stands_end : (next : State) → HasAnswered spoken mid (last_line held) next b c → HasAnswered spoken st (lines_of bytes) next a c
+      stands_end next answered =
+          subst (λ l. HasAnswered spoken st l next a c) (sym (lines_are bytes))
+          (answered_behind spoken st mid (whole_lines_of bytes) (last_line (last_piece bytes)) a b c stands.answered next
+          (last_alike (λ l. HasAnswered spoken mid l next b c) (λ xs ys same ls h. answered_same spoken xs ys same ls mid b c next h) held (last_piece bytes) kept_same answered))
 
-    pub begun_end : (c : Option (List ℕ)) → HasBegun spoken limit (last_line held) b c → HasBegun spoken limit (lines_of bytes) a c
-    begun_end c begun =
-        subst (λ l. HasBegun spoken limit l a c) (sym (lines_are bytes))
-        (begun_behind spoken limit (whole_lines_of bytes) (last_line (last_piece bytes)) a b c stands.answered (last_begun held (last_piece bytes) kept_same b c begun))
+      pub ended_end : HasEnded spoken mid (last_line held) b c → HasEnded spoken st (lines_of bytes) a c
+      ended_end ended =
+          subst (λ l. HasEnded spoken st l a c) (sym (lines_are bytes))
+          (ended_behind spoken st mid (whole_lines_of bytes) (last_line (last_piece bytes)) a b c stands.answered
+          (last_alike (λ l. HasEnded spoken mid l b c) (λ xs ys same ls h. ended_same spoken xs ys same ls mid b c h) held (last_piece bytes) kept_same ended))
 
-    pub begun_so_far : HasBegun spoken limit (whole_lines_of bytes) a b
-    begun_so_far = begun_of_answered spoken limit (whole_lines_of bytes) a b stands.answered
+      pub begun_end : HasBegun spoken mid (last_line held) b c → HasBegun spoken st (lines_of bytes) a c
+      begun_end begun =
+          subst (λ l. HasBegun spoken st l a c) (sym (lines_are bytes))
+          (begun_behind spoken st mid (whole_lines_of bytes) (last_line (last_piece bytes)) a b c stands.answered
+          (last_alike (λ l. HasBegun spoken mid l b c) (λ xs ys same ls h. begun_same spoken xs ys same ls mid b c h) held (last_piece bytes) kept_same begun))
+
+    pub begun_so_far : HasBegun spoken st (whole_lines_of bytes) a b
+    begun_so_far = begun_of_answered spoken st mid (whole_lines_of bytes) a b stands.answered

@@ -1,20 +1,27 @@
 -- How what was answered makes up the text of a session over a whole input.
-use Rattle.std.proofs.Common.{◌≡◌, ◌<◌, ◌≤◌, ◌-◌, ◌+◌, ℕ, zero, suc, List, [], ◌∷◌, ◌++◌, Option, None, Some, IfSome, Bool, true, false, length, take, drop, refl, sym, ◌∙◌, ap, subst, append_assoc, append-nil, arith, length-append, take-append-drop, inr}
+use Rattle.std.proofs.Common.{◌≡◌, ◌<◌, ◌≤◌, ◌-◌, ◌+◌, ℕ, zero, suc, List, [], ◌∷◌, ◌++◌, Option, None, Some, IfSome, Bool, true, false, length, take, drop, leb, refl, sym, ◌∙◌, ap, subst, append_assoc, append-nil, arith, length-append, take-append-drop, inr}
+use Rattle.std.proofs.lemmas.Bool.Decides.{nat_tests}
 use Rattle.std.proofs.lemmas.List.{take_all, take_at, length-take-le}
 use Rattle.std.specs.Io.KnownBytes.{Appends, Consumes, IsAtEnd}
 use Rattle.std.proofs.KnownBytes.{Appends-trans}
-use Rattle.patr_model.specs.Plain.{plain}
-use Rattle.patr_model.specs.Session.{Numbering, AgreesWith, IsQuit, Replied, whole_lines_of, lines_of}
+use Rattle.patr_model.specs.Solved.{solved}
+use Rattle.patr_model.specs.Notations.{lines_with_commands}
+use Rattle.patr_model.specs.Session as session
+use Rattle.patr_model.specs.Session.{Numbering, AgreesWith, Grounds, Replied, whole_lines_of, lines_of}
 use Rattle.patr_model.specs.Run.{Ending, Done, InputTooLong, IsSession, ended, quit, too_long}
-use Rattle.patr_model.specs.Built.{built, sentences_alone}
-use Rattle.patr_model.specs.Openings.{Answered}
-use Rattle.patr_shell.specs.Spoken.{Spoken, grounds, at_limit}
+use Rattle.patr_model.specs.Built.{built}
+use Rattle.patr_model.specs.Openings.{Answered, SessionRepliesBegin}
+use Rattle.patr_model.proofs.Canonical.{least_texts}
+use Rattle.patr_model.proofs.Lines.{replies_begin}
+use Rattle.patr_model.proofs.OneRun.{session_one}
+use Rattle.patr_shell.specs.Spoken.{Spoken, grounds, state_seen}
 use Rattle.patr_shell.specs.Sent.{AppendsFront}
-use Rattle.patr_shell.specs.Answering.{AreReplies, HasAnswered, HasBegun, HasWrittenSession, HasBegunSession, too_long_line, last_piece, last_line}
+use Rattle.patr_shell.specs.Answering.{HasAnswered, HasEnded, HasBegun, HasWrittenSession, HasBegunSession, too_long_line, last_piece, last_line}
+use Rattle.patr_shell.specs.declared.state.State.{State}
 use Rattle.patr_shell.proofs.Cuts.{lines_of_two, lines_are}
 use Rattle.patr_shell.proofs.Ends.{take_two}
-use Rattle.patr_shell.proofs.Fronts.{front_longer, front_behind}
-use Rattle.patr_shell.proofs.RunLaws.{sentences_begin}
+use Rattle.patr_shell.proofs.Fronts.{front_longer, front_behind, whole_front}
+use Rattle.patr_shell.proofs.Replying.{ended_longer}
 
 -- ---- what is told of an input
 
@@ -70,100 +77,116 @@ module _ (bytes piece rest : List ℕ) (within : ℕ) (short : length bytes + wi
 
 -- ---- the texts of a session
 
-no_quit : (l : List ℕ) → IsQuit sentences_alone l → ⊥
-no_quit l q = let e = q.2 in cc
+session_begins : SessionRepliesBegin
+session_begins = λ s. replies_begin solved lines_with_commands s (least_texts s) (λ st c x y m n. absurd m)
 
--- what is added to a text
-abbrev GoesOn : List ℕ → List ℕ → Type 0
-GoesOn before text = (after : List ℕ) × (text ≡ before ++ after)
+-- a session has one text
+one_text : (s : Grounds) (st : session.State) (input x y : List ℕ) (e f : Ending) → IsSession built s st input x e → IsSession built s st input y f → x ≡ y
+one_text s st input x y e f h k = (session_one built s (λ st c x y m n. absurd m) st input x y e f h k).0
 
-module _ (spoken : Spoken) (limit : ℕ) where
+lines_go_on : (bytes more : List ℕ) → lines_of (bytes ++ more) ≡ whole_lines_of bytes ++ (whole_lines_of (last_piece bytes ++ more) ++ last_line (last_piece (bytes ++ more)))
+lines_go_on bytes more =
+    lines_are (bytes ++ more)
+    ∙ ap (λ (l : List (List ℕ)). l ++ last_line (last_piece (bytes ++ more))) (lines_of_two bytes more)
+    ∙ append_assoc (whole_lines_of bytes) (whole_lines_of (last_piece bytes ++ more)) (last_line (last_piece (bytes ++ more)))
+
+module _ (spoken : Spoken) (st : State) where
   module _ (N : Numbering) (agrees : AgreesWith N spoken.texts) where
-    abbrev Texts : List (List ℕ) → List ℕ → Bool → Type 0
-    Texts ls text stops = Replied (λ g cat. plain g) sentences_alone (grounds N spoken) (at_limit limit) ls text stops
+    abbrev Texts : session.State → List (List ℕ) → List ℕ → Bool → Type 0
+    Texts from ls text stops = Replied solved lines_with_commands (grounds N spoken) from ls text stops
 
-    replied : (ls : List (List ℕ)) (x : List ℕ) → AreReplies spoken limit ls x → Texts ls x false
-    replied [] x h = (h, refl)
-    replied (l ∷ ls) x h = inr (no_quit l, h.0, at_limit limit, h.1, h.2 N agrees, replied ls h.1 h.3, h.4)
-
-    answered : (ls : List (List ℕ)) (x : List ℕ) → AreReplies spoken limit ls x → Answered (λ g cat. plain g) sentences_alone (grounds N spoken) (at_limit limit) ls x (at_limit limit)
-    answered [] x h = (h, refl)
-    answered (l ∷ ls) x h = (no_quit l, h.0, at_limit limit, h.1, h.2 N agrees, answered ls h.1 h.3, h.4)
+    -- what was answered is a text of the lines
+    replied : (from end : session.State) (ls : List (List ℕ)) (x : List ℕ) → Answered solved lines_with_commands (grounds N spoken) from ls x end → Texts from ls x false
+    replied from end [] x h = (h.0, refl)
+    replied from end (l ∷ ls) x h = inr (h.0, h.1, h.2, h.3, h.4, replied h.2 end ls h.3 h.5, h.6)
 
     -- the replies to the first lines begin each text
-    begins : (ls rest : List (List ℕ)) (x text : List ℕ) (stops : Bool) → AreReplies spoken limit ls x → Texts (ls ++ rest) text stops → (after : List ℕ) × (text ≡ x ++ after) × Texts rest after stops
-    begins ls rest x text stops h r = (sentences_begin (grounds N spoken)).begins (at_limit limit) (at_limit limit) ls rest x text stops (answered ls x h) r
-
-    begun_text : (ls rest : List (List ℕ)) (text : List ℕ) (stops : Bool) (a b : Option (List ℕ)) → HasBegun spoken limit ls a b → Texts (ls ++ rest) text stops → AppendsFront a b text
+    begun_text : (ls rest : List (List ℕ)) (text : List ℕ) (stops : Bool) (a b : Option (List ℕ)) → HasBegun spoken st ls a b → Texts (state_seen st) (ls ++ rest) text stops → AppendsFront a b text
     begun_text ls rest text stops a b h r =
         let split = ap (λ (l : List (List ℕ)). l ++ rest) h.split ∙ append_assoc h.some h.others rest in
-        let at = begins h.some (h.others ++ rest) h.text text stops h.replies (subst (λ l. Texts l text stops) split r) in
+        let at = (session_begins (grounds N spoken)).begins (state_seen st) (state_seen h.end) h.some (h.others ++ rest) h.text text stops (h.replies N agrees)
+        (subst (λ l. Texts (state_seen st) l text stops) split r) in
         subst (AppendsFront a b) (sym at.1) (front_longer a b h.text at.0 h.front)
 
     abbrev IsText : List ℕ → List ℕ → Ending → Type 0
-    IsText input text ending = IsSession built (grounds N spoken) (at_limit limit) input text ending
-
-    lines_go_on : (bytes more : List ℕ) → lines_of (bytes ++ more) ≡ whole_lines_of bytes ++ (whole_lines_of (last_piece bytes ++ more) ++ last_line (last_piece (bytes ++ more)))
-    lines_go_on bytes more =
-        lines_are (bytes ++ more)
-        ∙ ap (λ (l : List (List ℕ)). l ++ last_line (last_piece (bytes ++ more))) (lines_of_two bytes more)
-        ∙ append_assoc (whole_lines_of bytes) (whole_lines_of (last_piece bytes ++ more)) (last_line (last_piece (bytes ++ more)))
+    IsText input text ending = IsSession built (grounds N spoken) (state_seen st) input text ending
 
     -- of the lines within the limit the first are answered
-    begun_within : (input bytes more text : List ℕ) (ending : Ending) (a b : Option (List ℕ)) → HasBegun spoken limit (whole_lines_of bytes) a b → take most input ≡ bytes ++ more → IsText input text ending → AppendsFront a b text
+    begun_within : (input bytes more text : List ℕ) (ending : Ending) (a b : Option (List ℕ)) → HasBegun spoken st (whole_lines_of bytes) a b → take most input ≡ bytes ++ more → IsText input text ending → AppendsFront a b text
     begun_within input bytes more text ending a b h is (ended short stops r e) =
         let whole = sym (take_all most input short) ∙ is in
         begun_text (whole_lines_of bytes) (whole_lines_of (last_piece bytes ++ more) ++ last_line (last_piece (bytes ++ more))) text stops a b h
-        (subst (λ l. Texts l text stops) (ap lines_of whole ∙ lines_go_on bytes more) r)
+        (subst (λ l. Texts (state_seen st) l text stops) (ap lines_of whole ∙ lines_go_on bytes more) r)
     begun_within input bytes more text ending a b h is (quit past r e) =
         begun_text (whole_lines_of bytes) (whole_lines_of (last_piece bytes ++ more)) text true a b h
-        (subst (λ l. Texts l text true) (ap whole_lines_of is ∙ lines_of_two bytes more) r)
+        (subst (λ l. Texts (state_seen st) l text true) (ap whole_lines_of is ∙ lines_of_two bytes more) r)
     begun_within input bytes more text ending a b h is (too_long past before r t e) =
         let first = begun_text (whole_lines_of bytes) (whole_lines_of (last_piece bytes ++ more)) before false a b h
-        (subst (λ l. Texts l before false) (ap whole_lines_of is ∙ lines_of_two bytes more) r) in
+        (subst (λ l. Texts (state_seen st) l before false) (ap whole_lines_of is ∙ lines_of_two bytes more) r) in
         subst (AppendsFront a b) (sym t) (front_longer a b before too_long_line first)
 
     -- of the lines of a whole input the first are answered
-    begun_whole : (input text : List ℕ) (ending : Ending) (a b : Option (List ℕ)) → length input ≤ most → HasBegun spoken limit (lines_of input) a b → IsText input text ending → AppendsFront a b text
+    begun_whole : (input text : List ℕ) (ending : Ending) (a b : Option (List ℕ)) → length input ≤ most → HasBegun spoken st (lines_of input) a b → IsText input text ending → AppendsFront a b text
     begun_whole input text ending a b here h (ended short stops r e) =
-        begun_text (lines_of input) [] text stops a b h (subst (λ l. Texts l text stops) (sym (append-nil (lines_of input))) r)
+        begun_text (lines_of input) [] text stops a b h (subst (λ l. Texts (state_seen st) l text stops) (sym (append-nil (lines_of input))) r)
     begun_whole input text ending a b here h (quit past r e) = absurd (omega (arith, here, past))
     begun_whole input text ending a b here h (too_long past before r t e) = absurd (omega (arith, here, past))
 
     -- all lines within the limit are answered, and more comes
-    begun_past : (input text : List ℕ) (ending : Ending) (a b c : Option (List ℕ)) → most < length input → HasAnswered spoken limit (whole_lines_of (take most input)) a b → AppendsFront b c too_long_line
-        → IsText input text ending → AppendsFront a c text
-    begun_past input text ending a b c here h line (ended short stops r e) = absurd (omega (arith, here, short))
-    begun_past input text ending a b c here h line (quit past r e) =
-        let at = begins (whole_lines_of (take most input)) [] h.text text true h.replies (subst (λ l. Texts l text true) (sym (append-nil (whole_lines_of (take most input)))) r) in
-        let e : true ≡ false = at.2.1 in
-        cc
-    begun_past input text ending a b c here h line (too_long past before r t e) =
-        let at = begins (whole_lines_of (take most input)) [] h.text before false h.replies (subst (λ l. Texts l before false) (sym (append-nil (whole_lines_of (take most input)))) r) in
-        let same : before ≡ h.text = at.1 ∙ ap (λ (l : List ℕ). h.text ++ l) at.2.0 ∙ append-nil h.text in
-        subst (AppendsFront a c) (sym (t ∙ ap (λ (l : List ℕ). l ++ too_long_line) same)) (front_behind a b c h.text too_long_line h.sent line)
+    past_text : (end : State) (input : List ℕ) (a b : Option (List ℕ)) → most < length input → (h : HasAnswered spoken st (whole_lines_of (take most input)) end a b) → IsText input (h.text ++ too_long_line) InputTooLong
+    past_text end input a b long h = too_long long h.text (replied (state_seen st) (state_seen end) (whole_lines_of (take most input)) h.text (h.replies N agrees)) refl refl
 
   -- ---- what a session has written
 
-  pub front_within : (input bytes more : List ℕ) (a b : Option (List ℕ)) → HasBegun spoken limit (whole_lines_of bytes) a b → take most input ≡ bytes ++ more → HasBegunSession spoken limit input a b
+  pub front_within : (input bytes more : List ℕ) (a b : Option (List ℕ)) → HasBegun spoken st (whole_lines_of bytes) a b → take most input ≡ bytes ++ more → HasBegunSession spoken st input a b
   front_within input bytes more a b h is = λ N agrees text ending session. begun_within N agrees input bytes more text ending a b h is session
 
-  pub front_whole : (input : List ℕ) (a b : Option (List ℕ)) → length input ≤ most → HasBegun spoken limit (lines_of input) a b → HasBegunSession spoken limit input a b
+  pub front_whole : (input : List ℕ) (a b : Option (List ℕ)) → length input ≤ most → HasBegun spoken st (lines_of input) a b → HasBegunSession spoken st input a b
   front_whole input a b short h = λ N agrees text ending session. begun_whole N agrees input text ending a b short h session
 
-  pub front_past : (input : List ℕ) (a b c : Option (List ℕ)) → most < length input → HasAnswered spoken limit (whole_lines_of (take most input)) a b → AppendsFront b c too_long_line → HasBegunSession spoken limit input a c
-  front_past input a b c long h line = λ N agrees text ending session. begun_past N agrees input text ending a b c long h line session
+  -- what is a text is a front of each
+  pub front_written : (input : List ℕ) (ending : Ending) (a b : Option (List ℕ)) → HasWrittenSession spoken st input ending a b → HasBegunSession spoken st input a b
+  front_written input ending a b h = λ N agrees text other session.
+      subst (AppendsFront a b) (one_text (grounds N spoken) (state_seen st) input h.text text ending other (h.is_session N agrees) session) (whole_front a b h.text h.appended)
 
-  pub written_whole : (input : List ℕ) (a b : Option (List ℕ)) → length input ≤ most → HasAnswered spoken limit (lines_of input) a b → HasWrittenSession spoken limit input Done a b
-  written_whole input a b short h = record {
+  pub front_past : (end : State) (input : List ℕ) (a b c : Option (List ℕ)) → most < length input → HasAnswered spoken st (whole_lines_of (take most input)) end a b → AppendsFront b c too_long_line → HasBegunSession spoken st input a c
+  front_past end input a b c long h line = λ N agrees text ending session.
+      subst (AppendsFront a c) (one_text (grounds N spoken) (state_seen st) input (h.text ++ too_long_line) text InputTooLong ending (past_text N agrees end input a b long h) session)
+      (front_behind a b c h.text too_long_line h.sent line)
+
+  pub written_whole : (end : State) (input : List ℕ) (a b : Option (List ℕ)) → length input ≤ most → HasAnswered spoken st (lines_of input) end a b → HasWrittenSession spoken st input Done a b
+  written_whole end input a b short h = record {
     text = h.text;
-    is_session = λ N agrees. ended short false (replied N agrees (lines_of input) h.text h.replies) refl;
+    is_session = λ N agrees. ended short false (replied N agrees (state_seen st) (state_seen end) (lines_of input) h.text (h.replies N agrees)) refl;
     appended = h.sent;
   }
 
-  pub written_past : (input : List ℕ) (a b c : Option (List ℕ)) → most < length input → HasAnswered spoken limit (whole_lines_of (take most input)) a b → Appends b c too_long_line → HasWrittenSession spoken limit input InputTooLong a c
-  written_past input a b c long h line = record {
+  pub written_ended : (input : List ℕ) (a b : Option (List ℕ)) → length input ≤ most → HasEnded spoken st (lines_of input) a b → HasWrittenSession spoken st input Done a b
+  written_ended input a b short h = record {
+    text = h.text;
+    is_session = λ N agrees. ended short true (h.replies N agrees) refl;
+    appended = h.sent;
+  }
+
+  -- a line within the limit ends the session
+  pub written_quit : (input bytes more : List ℕ) (a b : Option (List ℕ)) → HasEnded spoken st (whole_lines_of bytes) a b → take most input ≡ bytes ++ more → HasWrittenSession spoken st input Done a b
+  written_quit input bytes more a b h is = elim (leb (length input) most) as (λ t. leb (length input) most ≡ t → HasWrittenSession spoken st input Done a b) [
+    | true ↦ λ test.
+        let short : length input ≤ most = grind (arith, nat_tests) in
+        let whole : input ≡ bytes ++ more = sym (take_all most input short) ∙ is in
+        written_ended input a b short
+        (subst (λ l. HasEnded spoken st l a b) (sym (ap lines_of whole ∙ lines_go_on bytes more))
+        (ended_longer spoken st (whole_lines_of bytes) (whole_lines_of (last_piece bytes ++ more) ++ last_line (last_piece (bytes ++ more))) a b h))
+    | false ↦ λ test.
+        let past : most < length input = grind (arith, nat_tests) in
+        let all : HasEnded spoken st (whole_lines_of (take most input)) a b =
+        subst (λ l. HasEnded spoken st l a b) (sym (ap whole_lines_of is ∙ lines_of_two bytes more)) (ended_longer spoken st (whole_lines_of bytes) (whole_lines_of (last_piece bytes ++ more)) a b h) in
+        record { text = all.text; is_session = λ N agrees. quit past (all.replies N agrees) refl; appended = all.sent }
+  ] refl
+
+  pub written_past : (end : State) (input : List ℕ) (a b c : Option (List ℕ)) → most < length input → HasAnswered spoken st (whole_lines_of (take most input)) end a b → Appends b c too_long_line → HasWrittenSession spoken st input InputTooLong a c
+  written_past end input a b c long h line = record {
     text = h.text ++ too_long_line;
-    is_session = λ N agrees. too_long long h.text (replied N agrees (whole_lines_of (take most input)) h.text h.replies) refl refl;
+    is_session = λ N agrees. past_text N agrees end input a b long h;
     appended = Appends-trans a b c h.text too_long_line h.sent line;
   }

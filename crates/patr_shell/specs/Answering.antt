@@ -1,14 +1,51 @@
--- The replies to lines under a language, and what of them reached a sink.
-use Rattle.std.specs.Prelude.{◌≡◌, ℕ, nat_eq, List, [], ◌∷◌, ◌++◌, Bool, true, false, Option, Result, Err, codes}
-use Rattle.std.specs.Io.KnownBytes.{Appends}
-use Rattle.patr_model.specs.Plain.{plain}
-use Rattle.patr_model.specs.Session.{Numbering, AgreesWith, IsLineReply, line, cut_at, without_cr, without_empty}
+-- The answers to lines under a language, and what of them reached a sink.
+--     IsAnswer s st bytes a           what a line comes to
+--     HasAnswered, HasEnded           lines were answered, none of which or one of which ends the session
+--     HasBegun                        the first of the lines were answered, the last of them maybe in part
+use Rattle.std.specs.Prelude.{◌≡◌, ◌⊎◌, ℕ, nat_eq, List, [], ◌∷◌, ◌++◌, Bool, true, false, Option, Some, None, Result, Err, codes}
+use Rattle.std.specs.String.{string_bytes}
+use Rattle.std.specs.Io.KnownBytes.{Appends, Consumes}
+use Rattle.patr_model.specs.Solved.{solved}
+use Rattle.patr_model.specs.Session.{Numbering, AgreesWith, IsQuit, IsWordsReply, IsLineReply, IsCommandReply, Replied, line, cut_at, whole_lines_of, without_cr, without_empty}
 use Rattle.patr_model.specs.Run.{Ending, IsSession}
-use Rattle.patr_model.specs.Built.{sentences_alone, built}
-use Rattle.patr_shell.specs.Spoken.{Spoken, grounds, at_limit}
+use Rattle.patr_model.specs.Openings.{Answered}
+use Rattle.patr_model.specs.Notations.{lines_with_commands}
+use Rattle.patr_model.specs.Built.{built}
+use Rattle.patr_shell.specs.Spoken.{Spoken, grounds, state_seen, command_seen}
 use Rattle.patr_shell.specs.Sent.{AppendsFront}
+use Rattle.patr_shell.specs.declared.state.State.{State}
+use Rattle.patr_shell.specs.declared.command.Command.{Command}
+use Rattle.patr_shell.specs.declared.command.Command.TheVariants.{Quit}
+use Rattle.patr_shell.specs.declared.answer.Reply.{Reply}
 use Rattle.patr_shell.specs.declared.session.AnswerFault.{AnswerFault}
 use Rattle.patr_shell.specs.declared.session.AnswerFault.TheVariants.{Write}
+use Rattle.patr_shell.specs.declared.session.Next.{Next}
+use Rattle.patr_shell.specs.declared.session.Next.TheVariants.{GoesOn, Ends}
+
+-- ---- what a line comes to
+
+-- what a command comes to: none for the one that ends the session, and else its reply and the state behind it
+abbrev pub IsAnswerToCommand : State → Command → Option Reply → Type 0
+IsAnswerToCommand st c None = c ≡ Quit
+IsAnswerToCommand st c (Some r) = (c ≡ Quit → ⊥) × ((spoken : Spoken) (N : Numbering) → IsCommandReply solved lines_with_commands (grounds N spoken) (state_seen st) (command_seen c) (string_bytes r.text) (state_seen r.state))
+
+-- the words of a line end the session
+abbrev pub AreQuit : List (List ℕ) → Type 0
+AreQuit words = lines_with_commands.command words ≡ Some (command_seen Quit)
+
+-- what the words of a line come to
+abbrev pub IsAnswerToWords : Spoken → State → List (List ℕ) → Option Reply → Type 0
+IsAnswerToWords spoken st words None = AreQuit words
+IsAnswerToWords spoken st words (Some r) = (AreQuit words → ⊥)
+    × ((N : Numbering) → AgreesWith N spoken.texts → IsWordsReply solved lines_with_commands (grounds N spoken) (state_seen st) words (string_bytes r.text) (state_seen r.state))
+
+-- what a line comes to, whatever the numbering: none where it ends the session, and else its reply and the state behind it
+abbrev pub IsAnswer : Spoken → State → List ℕ → Option Reply → Type 0
+IsAnswer spoken st bytes None = IsQuit lines_with_commands bytes
+IsAnswer spoken st bytes (Some r) = (IsQuit lines_with_commands bytes → ⊥)
+    × ((N : Numbering) → AgreesWith N spoken.texts → IsLineReply solved lines_with_commands (grounds N spoken) (state_seen st) bytes (string_bytes r.text) (state_seen r.state))
+
+-- ---- the parts of an input
 
 -- the last of these pieces
 abbrev pub last_of : List ℕ → List (List ℕ) → List ℕ
@@ -36,30 +73,39 @@ HasNoFeed bytes = (cut_at (nat_eq 10) bytes).rest ≡ []
 abbrev pub last_line : List ℕ → List (List ℕ)
 last_line piece = without_empty (without_cr piece ∷ [])
 
--- a reply to the line, whatever the numbering
-abbrev pub IsReply : Spoken → ℕ → List ℕ → List ℕ → Type 0
-IsReply spoken limit bytes text = (N : Numbering) → AgreesWith N spoken.texts
-    → IsLineReply (λ g cat. plain g) sentences_alone (grounds N spoken) (at_limit limit) bytes text (at_limit limit)
+-- ---- what was answered
 
--- replies to the lines, one behind another
-abbrev pub AreReplies : Spoken → ℕ → List (List ℕ) → List ℕ → Type 0
-AreReplies spoken limit [] text = text ≡ []
-AreReplies spoken limit (l ∷ lines) text =
-    (first rest : List ℕ) × IsReply spoken limit l first × AreReplies spoken limit lines rest × (text ≡ first ++ rest)
+-- one of the lines ends the session
+abbrev pub HasQuit : List (List ℕ) → Type 0
+HasQuit [] = ⊥
+HasQuit (l ∷ ls) = IsQuit lines_with_commands l ⊎ HasQuit ls
 
--- each line was answered on the sink, in order
-pub record HasAnswered (spoken : Spoken) (limit : ℕ) (lines : List (List ℕ)) (old new : Option (List ℕ)) : Type 0 where
+-- each line was answered on the sink, in order, and none ends the session
+pub record HasAnswered (spoken : Spoken) (st : State) (lines : List (List ℕ)) (end : State) (old new : Option (List ℕ)) : Type 0 where
   pub text : List ℕ
-  pub replies : AreReplies spoken limit lines text
+  pub replies : (N : Numbering) → AgreesWith N spoken.texts → Answered solved lines_with_commands (grounds N spoken) (state_seen st) lines text (state_seen end)
   pub sent : Appends old new text
 
+-- each line before the one that ends the session was answered on the sink, in order
+pub record HasEnded (spoken : Spoken) (st : State) (lines : List (List ℕ)) (old new : Option (List ℕ)) : Type 0 where
+  pub text : List ℕ
+  pub replies : (N : Numbering) → AgreesWith N spoken.texts → Replied solved lines_with_commands (grounds N spoken) (state_seen st) lines text true
+  pub sent : Appends old new text
+  pub quit : HasQuit lines
+
+-- the lines were answered up to their end, or up to the one that ends the session
+abbrev pub HasTold : Spoken → State → List (List ℕ) → Next → State → Option (List ℕ) → Option (List ℕ) → Type 0
+HasTold spoken st lines GoesOn end old new = HasAnswered spoken st lines end old new
+HasTold spoken st lines Ends end old new = HasEnded spoken st lines old new
+
 -- the first of the lines were answered on the sink, in order, the last of them maybe in part
-pub record HasBegun (spoken : Spoken) (limit : ℕ) (lines : List (List ℕ)) (old new : Option (List ℕ)) : Type 0 where
+pub record HasBegun (spoken : Spoken) (st : State) (lines : List (List ℕ)) (old new : Option (List ℕ)) : Type 0 where
   pub some : List (List ℕ)
   pub others : List (List ℕ)
   pub split : lines ≡ some ++ others
   pub text : List ℕ
-  pub replies : AreReplies spoken limit some text
+  pub end : State
+  pub replies : (N : Numbering) → AgreesWith N spoken.texts → Answered solved lines_with_commands (grounds N spoken) (state_seen st) some text (state_seen end)
   pub front : AppendsFront old new text
 
 -- the line that refuses a longer input
@@ -71,13 +117,19 @@ abbrev pub is_write_fault : {T : Type 0} → Result T AnswerFault → Bool
 is_write_fault (Err Write) = true
 is_write_fault _ = false
 
+-- ---- the session
+
+-- bytes were taken in which a line ends that ends the session
+abbrev pub HasTakenQuit : Option (List ℕ) → Option (List ℕ) → Type 0
+HasTakenQuit left left' = (taken : List ℕ) × Consumes left left' taken × HasQuit (whole_lines_of taken)
+
 -- the text of a session over the whole input, whatever the numbering, was written
-pub record HasWrittenSession (spoken : Spoken) (limit : ℕ) (input : List ℕ) (ending : Ending) (old new : Option (List ℕ)) : Type 0 where
+pub record HasWrittenSession (spoken : Spoken) (st : State) (input : List ℕ) (ending : Ending) (old new : Option (List ℕ)) : Type 0 where
   pub text : List ℕ
-  pub is_session : (N : Numbering) → AgreesWith N spoken.texts → IsSession built (grounds N spoken) (at_limit limit) input text ending
+  pub is_session : (N : Numbering) → AgreesWith N spoken.texts → IsSession built (grounds N spoken) (state_seen st) input text ending
   pub appended : Appends old new text
 
 -- a front of each text of a session over the input was written
-abbrev pub HasBegunSession : Spoken → ℕ → List ℕ → Option (List ℕ) → Option (List ℕ) → Type 0
-HasBegunSession spoken limit input old new = (N : Numbering) → AgreesWith N spoken.texts → (text : List ℕ) (ending : Ending)
-    → IsSession built (grounds N spoken) (at_limit limit) input text ending → AppendsFront old new text
+abbrev pub HasBegunSession : Spoken → State → List ℕ → Option (List ℕ) → Option (List ℕ) → Type 0
+HasBegunSession spoken st input old new = (N : Numbering) → AgreesWith N spoken.texts → (text : List ℕ) (ending : Ending)
+    → IsSession built (grounds N spoken) (state_seen st) input text ending → AppendsFront old new text

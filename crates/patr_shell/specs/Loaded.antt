@@ -1,20 +1,21 @@
--- What the two files of a run are read as.
-use Rattle.std.specs.Prelude.{◌≡◌, ◌⊎◌, ◌≤◌, ℕ, List, ◌∷◌, length, map, Option}
+-- What the two files of a run are read as, and what is built from them.
+use Rattle.std.specs.Prelude.{◌≡◌, ◌⊎◌, ◌≤◌, ℕ, List, length, Option, Some}
 use Rattle.patr_io.specs.Files.{Files, HasFile}
-use Rattle.patr_grammar.specs.Reading.{item_seen, StandsFor}
-use Rattle.patr_grammar.specs.declared.grammar.RuleText.{RuleText}
-use Rattle.patr_grammar.specs.declared.grammar.Item.{Item}
+use Rattle.patr_model.specs.Build as model
+use Rattle.patr_model.specs.Build.{build_fault}
+use Rattle.patr_grammar.specs.Reading.{StandsFor}
 use Rattle.patr_grammar.specs.declared.grammar.Grammar.{Grammar as GrammarText}
 use Rattle.patr_lexicon.specs.Reading.{StandsFor as StandForEntries}
-use Rattle.patr_shell.specs.Outcome.{HasBadGrammar, HasBadLexicon}
 use Rattle.patr_lexicon.specs.declared.lexicon.Entry.{Entry}
+use Rattle.patr_expand.specs.Seen.{cause_seen}
+use Rattle.patr_library.specs.Stored.{grammar_of, entries_of, IsBuiltFrom}
+use Rattle.patr_shell.specs.Spoken.{Spoken}
+use Rattle.patr_shell.specs.Outcome.{IsNoGrammar, IsNoLexicon}
+use Rattle.patr_shell.specs.declared.status.GrammarTrouble.TheVariants as grammar_trouble
+use Rattle.patr_shell.specs.declared.status.LexiconTrouble.TheVariants as lexicon_trouble
 use Rattle.patr_shell.specs.declared.refusal.OpeningFault.{OpeningFault}
 use Rattle.patr_shell.specs.declared.refusal.OpeningFault.TheVariants.{Refused, Read, Memory}
 use Rattle.patr_shell.specs.declared.refusal.Refusal.TheVariants.{Grammar, Lexicon}
-
--- the categories of a written rule's constituents, the mother's first
-abbrev pub text_categories : RuleText → List ℕ
-text_categories r = r.mother.category.0 ∷ map (λ (i : Item). (item_seen i).category.0) r.right.items
 
 -- a file could not be loaded, or memory was short
 abbrev pub IsLoadFault : OpeningFault → Type 0
@@ -26,11 +27,10 @@ pub record ReadsGrammar (files : Option Files) (name : List ℕ) (table : List (
   pub file : HasFile files name bytes
   pub short : length bytes ≤ 4194304
   pub stands : StandsFor table bytes grammar
-  pub few : length grammar.rules.items ≤ length bytes
 
 -- the file of this name was not read as a grammar
 abbrev pub IsGrammarFault : Option Files → List ℕ → OpeningFault → Type 0
-IsGrammarFault files name (Refused (Grammar trouble)) = HasBadGrammar files name trouble
+IsGrammarFault files name (Refused (Grammar trouble)) = IsNoGrammar files name trouble
 IsGrammarFault files name fault = IsLoadFault fault
 
 -- the file of this name was read as these entries, by the table
@@ -42,5 +42,16 @@ pub record ReadsLexicon (files : Option Files) (name : List ℕ) (table : List (
 
 -- the file of this name was not read as a lexicon
 abbrev pub IsLexiconFault : Option Files → List ℕ → OpeningFault → Type 0
-IsLexiconFault files name (Refused (Lexicon trouble)) = HasBadLexicon files name trouble
+IsLexiconFault files name (Refused (Lexicon trouble)) = IsNoLexicon files name trouble
 IsLexiconFault files name fault = IsLoadFault fault
+
+-- the language has these symbols, and the library of the grammar and the entries
+pub record IsBuiltOf (table : List (List ℕ)) (g : GrammarText) (l : List Entry) (s : Spoken) : Type 0 where
+  pub texts : s.texts ≡ table
+  pub library : IsBuiltFrom g l s.library
+
+-- the build refuses a rule or an entry, or memory was short
+abbrev pub IsBuildFault : GrammarText → List Entry → OpeningFault → Type 0
+IsBuildFault g l (Refused (Grammar (grammar_trouble.Expand c))) = build_fault (grammar_of g) (entries_of l) ≡ Some (model.InGrammar (cause_seen c))
+IsBuildFault g l (Refused (Lexicon (lexicon_trouble.Expand c))) = build_fault (grammar_of g) (entries_of l) ≡ Some (model.InLexicon (cause_seen c))
+IsBuildFault g l fault = fault ≡ Memory

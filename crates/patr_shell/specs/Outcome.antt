@@ -1,21 +1,24 @@
 -- What a run writes, how it ends, and why.
-use Rattle.std.specs.Prelude.{◌≡◌, ◌⊎◌, ◌≤◌, ℕ, List, length, Bool, true, false, Option, Some, None, Result, Err, ⊤, codes}
+use Rattle.std.specs.Prelude.{◌≡◌, ◌⊎◌, ◌≤◌, ◌^◌, ℕ, List, length, take, Bool, true, false, Option, Some, None, Result, Err, ⊤, codes}
 use Rattle.std.specs.FinMap.{get}
 use Rattle.std.specs.Io.KnownBytes.{Appends, Consumes}
 use Rattle.patr_io.specs.Causes.{Rose}
 use Rattle.patr_io.specs.Files.{Files, HasFile, HasLongFile, IsAbsent}
-use Rattle.patr_model.specs.Session.{Numbering, AgreesWith, line}
+use Rattle.patr_model.specs.Session.{Numbering, AgreesWith, line, whole_lines_of}
 use Rattle.patr_model.specs.Run.{Ending, Done as IsDone, BadWords as AreBadWords, BadGrammar as IsBadGrammar, BadLexicon as IsBadLexicon, NotRead, InputTooLong as IsInputTooLong, Setup, Session, usage, IsOpening, IsOut}
 use Rattle.patr_model.specs.Productions.{Grammar}
 use Rattle.patr_model.specs.GrammarText.{ReadsGrammar, RefusesGrammar, grammar_fault_line}
 use Rattle.patr_model.specs.LexiconText.{EntryText, ReadsLexicon, RefusesLexicon, lexicon_fault_line}
 use Rattle.patr_model.specs.CommandLine.{command_words}
+use Rattle.patr_model.specs.Build.{BuildFault, InGrammar, InLexicon, build_fault, size_fault_line}
 use Rattle.patr_model.specs.Built.{stage, built}
 use Rattle.patr_grammar.specs.Reading.{fault_of}
 use Rattle.patr_lexicon.specs.Reading.{fault_of as lexicon_fault_of}
-use Rattle.patr_shell.specs.Spoken.{Spoken, grounds, at_limit}
+use Rattle.patr_expand.specs.Seen.{cause_seen}
+use Rattle.patr_shell.specs.Spoken.{Spoken, grounds, state_seen}
 use Rattle.patr_shell.specs.Sent.{AppendsFront}
-use Rattle.patr_shell.specs.Answering.{ended_part}
+use Rattle.patr_shell.specs.Answering.{ended_part, HasQuit}
+use Rattle.patr_shell.specs.declared.state.State.{State}
 use Rattle.patr_shell.specs.declared.status.GrammarTrouble.{GrammarTrouble}
 use Rattle.patr_shell.specs.declared.status.GrammarTrouble.TheVariants as grammar_trouble
 use Rattle.patr_shell.specs.declared.status.LexiconTrouble.{LexiconTrouble}
@@ -94,15 +97,41 @@ HasGrammar files name = (bytes : List ℕ) × (g : Grammar (List ℕ)) × HasFil
 abbrev pub HasLexicon : Option Files → List ℕ → Type 0
 HasLexicon files name = (bytes : List ℕ) × (entries : List EntryText) × HasFile files name bytes × (length bytes ≤ 16777216) × ReadsLexicon stage bytes entries
 
+-- the files of these names stand for a grammar and a lexicon of which the build refuses this, or nothing
+pub record Builds (files : Option Files) (grammar lexicon : List ℕ) (fault : Option BuildFault) : Type 0 where
+  pub grammar_bytes : List ℕ
+  pub rules : Grammar (List ℕ)
+  pub grammar_file : HasFile files grammar grammar_bytes
+  pub grammar_short : length grammar_bytes ≤ 4194304
+  pub reads_grammar : ReadsGrammar stage grammar_bytes rules
+  pub lexicon_bytes : List ℕ
+  pub entries : List EntryText
+  pub lexicon_file : HasFile files lexicon lexicon_bytes
+  pub lexicon_short : length lexicon_bytes ≤ 16777216
+  pub reads_lexicon : ReadsLexicon stage lexicon_bytes entries
+  pub is : build_fault rules entries ≡ fault
+
 -- the file of this name stands for no grammar, and why
-abbrev pub HasBadGrammar : Option Files → List ℕ → GrammarTrouble → Type 0
-HasBadGrammar files name grammar_trouble.TooLong = HasLongFile files name 4194304
-HasBadGrammar files name (grammar_trouble.Text cause) = (bytes : List ℕ) × HasFile files name bytes × (length bytes ≤ 4194304) × RefusesGrammar stage bytes (fault_of cause)
+abbrev pub IsNoGrammar : Option Files → List ℕ → GrammarTrouble → Type 0
+IsNoGrammar files name grammar_trouble.TooLong = HasLongFile files name 4194304
+IsNoGrammar files name (grammar_trouble.Text cause) = (bytes : List ℕ) × HasFile files name bytes × (length bytes ≤ 4194304) × RefusesGrammar stage bytes (fault_of cause)
+IsNoGrammar files name (grammar_trouble.Expand cause) = ⊥
 
 -- the file of this name stands for no lexicon, and why
-abbrev pub HasBadLexicon : Option Files → List ℕ → LexiconTrouble → Type 0
-HasBadLexicon files name lexicon_trouble.TooLong = HasLongFile files name 16777216
-HasBadLexicon files name (lexicon_trouble.Text cause) = (bytes : List ℕ) × HasFile files name bytes × (length bytes ≤ 16777216) × RefusesLexicon stage bytes (lexicon_fault_of cause)
+abbrev pub IsNoLexicon : Option Files → List ℕ → LexiconTrouble → Type 0
+IsNoLexicon files name lexicon_trouble.TooLong = HasLongFile files name 16777216
+IsNoLexicon files name (lexicon_trouble.Text cause) = (bytes : List ℕ) × HasFile files name bytes × (length bytes ≤ 16777216) × RefusesLexicon stage bytes (lexicon_fault_of cause)
+IsNoLexicon files name (lexicon_trouble.Expand cause) = ⊥
+
+-- the grammar's file stands for none, or the build refuses a rule, and why
+abbrev pub HasBadGrammar : Option Files → Setup → GrammarTrouble → Type 0
+HasBadGrammar files setup (grammar_trouble.Expand cause) = Builds files setup.grammar setup.lexicon (Some (InGrammar (cause_seen cause)))
+HasBadGrammar files setup trouble = IsNoGrammar files setup.grammar trouble
+
+-- the lexicon's file stands for none, or the build refuses an entry, and why
+abbrev pub HasBadLexicon : Option Files → Setup → LexiconTrouble → Type 0
+HasBadLexicon files setup (lexicon_trouble.Expand cause) = Builds files setup.grammar setup.lexicon (Some (InLexicon (cause_seen cause)))
+HasBadLexicon files setup trouble = IsNoLexicon files setup.lexicon trouble
 
 -- the words are of the form, and this is meant
 abbrev pub Names : List (List ℕ) → Setup → Type 0
@@ -117,21 +146,21 @@ pub data LooksAt (words : List (List ℕ)) (files : Option Files) (name : List �
 abbrev pub CannotLoad : Option Files → ℕ → ℕ → Option (List ℕ) → List ℕ → Type 0
 CannotLoad files before now failed_name name = (Rose before now × (failed_name ≡ Some name)) ⊎ IsAbsent files name
 
--- the words and the files come to a session with this language under this limit, whatever the numbering
-abbrev pub IsOpened : List (List ℕ) → Files → Spoken → ℕ → Type 0
-IsOpened words files spoken limit = (N : Numbering) → AgreesWith N spoken.texts → IsOpening built N words (get files) (Session (grounds N spoken) (at_limit limit))
+-- the words and the files come to a session with this language and this state, whatever the numbering
+abbrev pub IsOpened : List (List ℕ) → Files → Spoken → State → Type 0
+IsOpened words files spoken st = (N : Numbering) → AgreesWith N spoken.texts → IsOpening built N words (get files) (Session (grounds N spoken) (state_seen st))
 
 -- the words name two files that a session stands on
 abbrev pub HaveSession : List (List ℕ) → Option Files → Type 0
-HaveSession words files = (setup : Setup) × Names words setup × HasGrammar files setup.grammar × HasLexicon files setup.lexicon
+HaveSession words files = (setup : Setup) × Names words setup × Builds files setup.grammar setup.lexicon None
 
 -- A status has its cause: for BadWords the words are not of the form, for every other but want of memory and a fault of writing they are,
 -- for a refusal the file has the trouble that the status carries, and a session has both files.
 abbrev pub IsStatusOf : List (List ℕ) → Option Files → Status → Type 0
 IsStatusOf words files Done = HaveSession words files
 IsStatusOf words files BadWords = command_words words ≡ None
-IsStatusOf words files (BadGrammar trouble) = (setup : Setup) × Names words setup × HasBadGrammar files setup.grammar trouble
-IsStatusOf words files (BadLexicon trouble) = (setup : Setup) × Names words setup × HasGrammar files setup.grammar × HasBadLexicon files setup.lexicon trouble
+IsStatusOf words files (BadGrammar trouble) = (setup : Setup) × Names words setup × HasBadGrammar files setup trouble
+IsStatusOf words files (BadLexicon trouble) = (setup : Setup) × Names words setup × HasGrammar files setup.grammar × HasBadLexicon files setup trouble
 IsStatusOf words files ReadFault = (setup : Setup) × Names words setup
 IsStatusOf words files WriteFault = ⊤
 IsStatusOf words files Memory = ⊤
@@ -159,8 +188,10 @@ abbrev pub refusal_line : Refusal → List ℕ
 refusal_line refusal.Words = usage
 refusal_line (refusal.Grammar grammar_trouble.TooLong) = line (codes "error: grammar: more than 4194304 bytes")
 refusal_line (refusal.Grammar (grammar_trouble.Text cause)) = grammar_fault_line (fault_of cause)
+refusal_line (refusal.Grammar (grammar_trouble.Expand cause)) = size_fault_line (codes "grammar") (cause_seen cause)
 refusal_line (refusal.Lexicon lexicon_trouble.TooLong) = line (codes "error: lexicon: more than 16777216 bytes")
 refusal_line (refusal.Lexicon (lexicon_trouble.Text cause)) = lexicon_fault_line (lexicon_fault_of cause)
+refusal_line (refusal.Lexicon (lexicon_trouble.Expand cause)) = size_fault_line (codes "lexicon") (cause_seen cause)
 
 -- how a run ends whose refusal is to be written: by it, or since it could not be
 abbrev pub IsEndOf : Refusal → Status → Type 0
@@ -182,8 +213,12 @@ HasBegunRun words files input old new = (N : Numbering) (text : List ℕ) (endin
 abbrev pub HasAnsweredTaken : List (List ℕ) → Files → Option (List ℕ) → Option (List ℕ) → Option (List ℕ) → Option (List ℕ) → Type 0
 HasAnsweredTaken words files left left' old new = (taken : List ℕ) × Consumes left left' taken × HasWritten words files (ended_part taken) Done old new
 
--- The words are of the form, the files that they name are told and of the notation, and the input is told and within its size.
+-- an input within its size, or one in which a line ends within that size that ends the session
+abbrev pub IsWithin : List ℕ → Type 0
+IsWithin bytes = (length bytes ≤ 16777216) ⊎ HasQuit (whole_lines_of (take (2 ^ 24) bytes))
+
+-- The words are of the form, the files that they name are told and of the notation, the build refuses nothing, and the input is told and within its size.
 pub record MayBeDone (words : List (List ℕ)) (files : Option Files) (left : Option (List ℕ)) : Type 0 where
   pub told : (f : Files) × (files ≡ Some f)
   pub session : HaveSession words files
-  pub input : (bytes : List ℕ) × (left ≡ Some bytes) × (length bytes ≤ 16777216)
+  pub input : (bytes : List ℕ) × (left ≡ Some bytes) × IsWithin bytes

@@ -11,7 +11,7 @@ use std::alloc::Global;
 const MOST_WORKERS: u32 = 16;
 
 /// The greatest limit, in edges.
-const MOST_EDGES: u32 = 200_000;
+pub const MOST_EDGES: u32 = 200_000;
 
 /// The limit where none is given, in edges.
 const DEFAULT_LIMIT: u32 = 20_000;
@@ -222,8 +222,9 @@ fn value_or(most: u32, default: u32, values: &[&str]) -> Option<u32>
 }
 
 /// The number from 1 to the greatest that one to six digits spell.
-fn number_of(most: u32, text: &str) -> Option<u32>
-    ensures { result ≡ number_of most text.now }
+pub fn number_of(most: u32, text: &str) -> Option<u32>
+    ensures number { result ≡ number_of most text.now }
+    ensures within { IfSome result (λ n. (1 ≤ n) × (n ≤ most)) }
 {
     let digits = text.as_bytes();
     if digits.is_empty() || digits.len() > 6 {

@@ -4,33 +4,25 @@
 //! contract says what it writes and how it ends.
 #![tactic(auto)]
 
-mod analyses;
-mod chart;
-mod closing;
+mod answer;
+mod command;
 mod command_line;
-mod edge;
-mod gate;
 mod language;
-mod lists;
 mod loading;
 mod opening;
-mod prediction;
 mod refusal;
-mod reply;
-mod rounds;
 mod running;
 mod sending;
 mod session;
+mod state;
 mod status;
-mod task;
-mod tree;
-mod words;
 
-pub(crate) use chart::Chart;
-pub use gate::{Gate, OpenGate};
 pub(crate) use language::Language;
+pub use patr_expand::ExpandCause;
 pub use patr_grammar::GrammarCause;
 pub use patr_lexicon::LexiconCause;
+pub use patr_pool::{Gate, OpenGate};
+pub use patr_reply::reply;
 pub use running::run;
 pub use status::{GrammarTrouble, LexiconTrouble, Status};
 

@@ -1,7 +1,9 @@
 //! Why a run ends before its session.
 ghost use Rattle.std.specs.Prelude.{◌≡◌, ◌++◌, IfOk, codes, string_bytes};
-ghost use Rattle.patr_model.specs.Faults.{at_place};
-ghost use Rattle.patr_model.specs.GrammarText.{grammar_fault_line};
+ghost use Rattle.patr_model.specs.Faults.{at_line, at_place};
+ghost use Rattle.patr_model.specs.Build.{TooManyEquations, size_fault_line};
+ghost use Rattle.patr_expand.specs.Seen.{cause_seen};
+ghost use Rattle.patr_model.specs.GrammarText.{grammar_fault_line, what_text};
 ghost use Rattle.patr_model.specs.LexiconText.{lexicon_fault_line};
 ghost use Rattle.patr_grammar.specs.Reading.{fault_of};
 ghost use Rattle.patr_lexicon.specs.Reading.{fault_of as lexicon_fault_of};
@@ -9,7 +11,8 @@ ghost use Rattle.patr_shell.specs.Outcome.{refusal_line, status_of};
 ghost use Rattle.patr_shell.specs.declared.refusal.OpeningFault.TheVariants.{Memory as OutOfMemory};
 
 use crate::{GrammarTrouble, LexiconTrouble, Memory, Status};
-use patr_grammar::{GrammarCause, expected_text};
+use patr_expand::ExpandCause;
+use patr_grammar::{GrammarCause, What, expected_text};
 use patr_lexicon::LexiconCause;
 use std::alloc::{AllocError, AllocFailed, Global};
 
@@ -64,17 +67,20 @@ impl<T: Drop> From<AllocFailed<T>> for OpeningFault {
     }
 }
 
-/// The line that refuses a grammar's text where something else is expected.
+/// The line that refuses the text of this file, `grammar` or `lexicon`, where something else is expected.
 fn expected_line(
     alloc: Global,
+    file: &'static str,
     line: u32,
     column: u32,
-    what: &'static str,
+    what: &What,
 ) -> Result<String, Memory>
-    ensures { IfOk result (λ text. string_bytes text ≡ at_place (codes "grammar") (record { line = line; column = column }) (codes "expected " ++ what.now)) }
+    ensures { IfOk result (λ text. string_bytes text ≡ at_place file.now (record { line = line; column = column }) (codes "expected " ++ what_text what.now)) }
 {
-    let mut text = format!(in alloc; "error: grammar {line}:{column}: expected ")?;
-    text.push_str(what)?;
+    let mut text = format!(in alloc; "error: {file} {line}")?;
+    let column = format!(in alloc; ":{column}: expected ")?;
+    text.push_str(column.as_str())?;
+    text.push_str(expected_text(what))?;
     text.push('\n')?;
     Ok(text)
 }
@@ -91,7 +97,7 @@ fn grammar_line(alloc: Global, cause: GrammarCause) -> Result<String, Memory>
             format!(in alloc; "error: grammar {line}:{column}: bad character\n")
         }
         GrammarCause::Expected { line, column, what } => {
-            expected_line(alloc, line, column, expected_text(&what))
+            expected_line(alloc, "grammar", line, column, &what)
         }
         GrammarCause::NotAConstituent { line, column } => {
             format!(in alloc; "error: grammar {line}:{column}: not a constituent\n")
@@ -127,9 +133,48 @@ fn lexicon_line(alloc: Global, cause: LexiconCause) -> Result<String, Memory>
         LexiconCause::NoCategory { line } => {
             format!(in alloc; "error: lexicon {line}: no category\n")
         }
+        LexiconCause::Expected { line, column, what } => {
+            expected_line(alloc, "lexicon", line, column, &what)
+        }
+        LexiconCause::PathTooLong { line, column } => {
+            format!(in alloc; "error: lexicon {line}:{column}: path too long\n")
+        }
         LexiconCause::LaterForm { line, column } => {
             format!(in alloc; "error: lexicon {line}:{column}: not built yet\n")
         }
+    }
+}
+
+/// The line on a line of this file.
+fn line_at(alloc: Global, file: &'static str, line: u32, what: &str) -> Result<String, Memory>
+    ensures { IfOk result (λ text. string_bytes text ≡ at_line file.now line what.now) }
+{
+    let mut text = format!(in alloc; "error: {file} {line}")?;
+    text.push_str(": ")?;
+    text.push_str(what)?;
+    text.push('\n')?;
+    Ok(text)
+}
+
+/// The line that refuses a rule or an entry of this file that has so many equations.
+fn equations_line(
+    alloc: Global,
+    file: &'static str,
+    line: u32,
+    count: u64,
+) -> Result<String, Memory>
+    ensures { IfOk result (λ text. string_bytes text ≡ size_fault_line file.now (TooManyEquations line count)) }
+{
+    let what = format!(in alloc; "more than 1024 equations ({count})")?;
+    line_at(alloc, file, line, what.as_str())
+}
+
+/// The line that refuses a rule or an entry of this file that is too large.
+fn expand_line(alloc: Global, file: &'static str, cause: ExpandCause) -> Result<String, Memory>
+    ensures { IfOk result (λ text. string_bytes text ≡ size_fault_line file.now (cause_seen cause)) }
+{
+    match cause {
+        ExpandCause::TooManyEquations { line, count } => equations_line(alloc, file, line, count),
     }
 }
 
@@ -142,8 +187,14 @@ impl Refusal {
             Refusal::Words => String::from_str(alloc, USAGE),
             Refusal::Grammar(GrammarTrouble::TooLong) => String::from_str(alloc, LONG_GRAMMAR),
             Refusal::Grammar(GrammarTrouble::Text(cause)) => grammar_line(alloc, *cause),
+            Refusal::Grammar(GrammarTrouble::Expand(cause)) => {
+                expand_line(alloc, "grammar", *cause)
+            }
             Refusal::Lexicon(LexiconTrouble::TooLong) => String::from_str(alloc, LONG_LEXICON),
             Refusal::Lexicon(LexiconTrouble::Text(cause)) => lexicon_line(alloc, *cause),
+            Refusal::Lexicon(LexiconTrouble::Expand(cause)) => {
+                expand_line(alloc, "lexicon", *cause)
+            }
         }
     }
 }

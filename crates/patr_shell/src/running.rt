@@ -4,6 +4,7 @@ ghost use Rattle.std.specs.Bool.{OnTrue, OnFalse};
 ghost use Rattle.std.specs.Io.KnownBytes.{Appends, IsAtEnd};
 ghost use Rattle.patr_io.specs.Causes.{HasCause, IsFlushed, Rose};
 ghost use Rattle.patr_shell.specs.Sent.{AppendsFront};
+ghost use Rattle.patr_shell.specs.Answering.{HasTakenQuit};
 ghost use Rattle.patr_shell.specs.Outcome.{is_definite, is_refusal, refusal_line, IsEndOf, ended_by_read, ended_by_write, HasWritten, HasBegunRun, HasAnsweredTaken, MayBeDone, IsStatusOf, LooksAt, CannotLoad};
 
 use crate::opening::open;
@@ -33,7 +34,8 @@ fn refuse<K: Sink>(alloc: Global, output: &mut K, refusal: Refusal) -> Status
     }
 }
 
-/// Reads the grammar and the lexicon that the words name, and answers each line of the input on the output.
+/// Reads the grammar and the lexicon that the words name, and answers each line of the input on the output, up to its
+/// end or to a `:quit`. `gate` is passed before each task of a sentence.
 ///
 /// Every status but a fault of reading or writing and want of memory says that the whole text of the run was written.
 /// A refusal of the words or of a file takes nothing of the input.
@@ -63,13 +65,14 @@ pub fn run<R: Threads + Wait + Sync, F: Shelf, S: Source, K: Sink, G: Gate>(
     ensures write { HasCause (K.faults output.old) (K.faults output.new) (ended_by_write result) }
     ensures flushed { OnTrue (is_definite result) (IsFlushed (K.written output.old) (K.flushed output.old) → IsFlushed (K.written output.new) (K.flushed output.new)) }
     ensures untouched { OnTrue (is_refusal result) (S.left input.new ≡ S.left input.old) }
-    ensures end { result ≡ Status.Done → IsAtEnd (S.left input.new) }
+    // The input was read to its end, or a `:quit` was taken.
+    ensures end { result ≡ Status.Done → IsAtEnd (S.left input.new) ⊎ HasTakenQuit (S.left input.old) (S.left input.new) }
     // Where the words, the files and the input are as they should be and no device failed, the run is done, or memory was short.
     ensures complete { MayBeDone (map string_bytes words.now) (F.files shelf.old) (S.left input.old) → (Rose (S.faults input.old) (S.faults input.new) → ⊥) → (Rose (F.faults shelf.old) (F.faults shelf.new) → ⊥)
         → (Rose (K.faults output.old) (K.faults output.new) → ⊥) → (result ≡ Status.Done) ⊎ (result ≡ Status.Memory) }
 {
     match open(alloc, words, shelf) {
-        Ok(opened) => run_session(alloc, &opened.language, opened.limit, input, output),
+        Ok(opened) => run_session(alloc, &opened.language, opened.state, input, output, gate),
         Err(OpeningFault::Refused(refusal)) => refuse(alloc, output, refusal),
         Err(OpeningFault::Read) => Status::ReadFault,
         Err(OpeningFault::Memory) => Status::Memory,

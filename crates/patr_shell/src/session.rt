@@ -1,17 +1,20 @@
 //! A session: the lines of an input are answered, each before more is read.
-ghost use Rattle.std.specs.Prelude.{◌==◌, position, ◌≡◌, ◌≤◌, ℕ, List, [], ◌∷◌, ◌++◌, length, take, IfSome, IfNone, OnOk, OnErr};
+ghost use Rattle.std.specs.Prelude.{◌==◌, position, ◌≡◌, ◌⊎◌, ◌≤◌, ℕ, List, [], ◌∷◌, ◌++◌, length, take, IfOk, IfSome, IfNone, OnOk, OnErr};
 ghost use Rattle.std.specs.Bool.{OnTrue, OnFalse};
 ghost use Rattle.std.specs.Io.KnownBytes.{Appends, Consumes, IsAtEnd};
 ghost use Rattle.patr_io.specs.Causes.{HasCause, IsFlushed};
 ghost use Rattle.patr_model.specs.Session.{whole_lines_of, without_cr};
 ghost use Rattle.patr_shell.specs.declared.session.AnswerFault.TheVariants.{Write, Memory as OutOfMemory};
-ghost use Rattle.patr_shell.specs.Answering.{HasNoFeed, last_piece, last_line, too_long_line, HasAnswered, HasBegun, is_write_fault, HasWrittenSession, HasBegunSession};
+ghost use Rattle.patr_shell.specs.Spoken.{HasLimit};
+ghost use Rattle.patr_shell.specs.Answering.{HasNoFeed, last_piece, last_line, too_long_line, HasTold, HasAnswered, HasBegun, HasTakenQuit, is_write_fault, HasWrittenSession, HasBegunSession};
+ghost use Rattle.patr_shell.specs.declared.state.State.{State};
 ghost use Rattle.patr_shell.specs.Sent.{AppendsFront};
 ghost use Rattle.patr_shell.specs.Outcome.{is_definite, ending_of, ended_by_read, ended_by_write, IsSessionStatus, answer_status};
 
-use crate::reply::line_reply;
+use crate::answer::line_answer;
 use crate::sending::send;
-use crate::{Language, Memory, Status};
+use crate::state::State;
+use crate::{Gate, Language, Memory, Status};
 use patr_io::{Failed, Sink, Source};
 use std::alloc::{AllocError, AllocFailed, Global};
 
@@ -25,6 +28,13 @@ const PIECE: usize = 4096;
 const MAX_INPUT: usize = 1 << 24;
 
 const INPUT_TOO_LONG: &[u8] = b"error: input longer than 16777216 bytes\n";
+
+/// What stands behind a line that was answered: the next one, or the end of the session.
+#[derive(Clone, Copy, Debug, PartialEq, Eq)]
+pub enum Next {
+    GoesOn,
+    Ends,
+}
 
 /// Why a line was not answered.
 #[derive(Clone, Copy, Debug, PartialEq, Eq)]
@@ -107,73 +117,84 @@ fn keep(held: &mut Vec<u8>, part: &[u8]) -> Result<(), Memory>
     Ok(())
 }
 
-/// Answers a line, of which a CR may be the end.
-fn answer_line<K: Sink>(
+/// Answers a line, of which a CR may be the end, and keeps the state behind it.
+fn answer_line<K: Sink, G: Gate>(
     alloc: Global,
     language: &Language,
-    limit: u32,
+    state: &mut State,
     sink: &mut K,
     line: &[u8],
-) -> Result<(), AnswerFault>
-    requires { limit ≤ 200000 }
-    ensures text { OnOk result (HasAnswered language.now limit (without_cr line.now ∷ []) (K.written sink.old) (K.written sink.new)) }
-    ensures front { OnErr result (HasBegun language.now limit (without_cr line.now ∷ []) (K.written sink.old) (K.written sink.new)) }
+    gate: &G,
+) -> Result<Next, AnswerFault>
+    requires { HasLimit state.old }
+    ensures told { IfOk result (λ next. HasTold language.now state.old (without_cr line.now ∷ []) next state.new (K.written sink.old) (K.written sink.new)) }
+    ensures front { OnErr result (HasBegun language.now state.old (without_cr line.now ∷ []) (K.written sink.old) (K.written sink.new)) }
+    ensures limit { HasLimit state.new }
     ensures cause { HasCause (K.faults sink.old) (K.faults sink.new) (is_write_fault result) }
     ensures flushed { OnOk result (IsFlushed (K.written sink.old) (K.flushed sink.old) → IsFlushed (K.written sink.new) (K.flushed sink.new)) }
 {
-    let reply = line_reply(alloc, language, limit, trim(line))?;
-    send(sink, reply.as_bytes())?;
-    Ok(())
+    let Some(reply) = line_answer(alloc, language, *state, trim(line), gate)? else {
+        return Ok(Next::Ends);
+    };
+    send(sink, reply.text.as_bytes())?;
+    *state = reply.state;
+    Ok(Next::GoesOn)
 }
 
 /// Answers each line that ends in a piece of the input, the first with the held bytes before it, and holds what
-/// stands behind the last.
-fn take_piece<K: Sink>(
+/// stands behind the last. What stands behind a line that ends the session is left.
+fn take_piece<K: Sink, G: Gate>(
     alloc: Global,
     language: &Language,
-    limit: u32,
+    state: &mut State,
     sink: &mut K,
     held: &mut Vec<u8>,
     piece: &[u8],
-) -> Result<(), AnswerFault>
-    requires limit { limit ≤ 200000 }
+    gate: &G,
+) -> Result<Next, AnswerFault>
+    requires limit { HasLimit state.old }
     requires free { HasNoFeed held.old.items }
     requires short { length held.old.items ≤ 4098 }
-    ensures text { OnOk result (HasAnswered language.now limit (whole_lines_of (held.old.items ++ piece.now)) (K.written sink.old) (K.written sink.new)) }
-    ensures held { OnOk result (held.new.items ≡ take 4098 (last_piece (held.old.items ++ piece.now))) }
-    ensures front { OnErr result (HasBegun language.now limit (whole_lines_of (held.old.items ++ piece.now)) (K.written sink.old) (K.written sink.new)) }
+    ensures told { IfOk result (λ next. HasTold language.now state.old (whole_lines_of (held.old.items ++ piece.now)) next state.new (K.written sink.old) (K.written sink.new)) }
+    ensures held { IfOk result (λ next. next ≡ Next.GoesOn → held.new.items ≡ take 4098 (last_piece (held.old.items ++ piece.now))) }
+    ensures front { OnErr result (HasBegun language.now state.old (whole_lines_of (held.old.items ++ piece.now)) (K.written sink.old) (K.written sink.new)) }
+    ensures limit { HasLimit state.new }
     ensures cause { HasCause (K.faults sink.old) (K.faults sink.new) (is_write_fault result) }
     ensures flushed { OnOk result (IsFlushed (K.written sink.old) (K.flushed sink.old) → IsFlushed (K.written sink.new) (K.flushed sink.new)) }
 {
     let mut rest = piece;
     'lines: while let Some((front, behind)) = cut_line(rest) {
         keep(held, front)?;
-        answer_line(alloc, language, limit, sink, held)?;
+        match answer_line(alloc, language, state, sink, held, gate)? {
+            Next::GoesOn => {}
+            Next::Ends => return Ok(Next::Ends),
+        }
         held.clear();
         rest = behind;
     }
     keep(held, rest)?;
-    Ok(())
+    Ok(Next::GoesOn)
 }
 
 /// Answers what stands behind the last LF, where it is a line.
-fn answer_last<K: Sink>(
+fn answer_last<K: Sink, G: Gate>(
     alloc: Global,
     language: &Language,
-    limit: u32,
+    state: &mut State,
     sink: &mut K,
     held: &[u8],
-) -> Result<(), AnswerFault>
-    requires { limit ≤ 200000 }
-    ensures text { OnOk result (HasAnswered language.now limit (last_line held.now) (K.written sink.old) (K.written sink.new)) }
-    ensures front { OnErr result (HasBegun language.now limit (last_line held.now) (K.written sink.old) (K.written sink.new)) }
+    gate: &G,
+) -> Result<Next, AnswerFault>
+    requires { HasLimit state.old }
+    ensures told { IfOk result (λ next. HasTold language.now state.old (last_line held.now) next state.new (K.written sink.old) (K.written sink.new)) }
+    ensures front { OnErr result (HasBegun language.now state.old (last_line held.now) (K.written sink.old) (K.written sink.new)) }
     ensures cause { HasCause (K.faults sink.old) (K.faults sink.new) (is_write_fault result) }
     ensures flushed { OnOk result (IsFlushed (K.written sink.old) (K.flushed sink.old) → IsFlushed (K.written sink.new) (K.flushed sink.new)) }
 {
     if trim(held).is_empty() {
-        return Ok(());
+        return Ok(Next::GoesOn);
     }
-    answer_line(alloc, language, limit, sink, held)
+    answer_line(alloc, language, state, sink, held, gate)
 }
 
 /// Writes the line that refuses a longer input.
@@ -187,27 +208,30 @@ fn refuse_rest<K: Sink>(sink: &mut K) -> Result<(), AnswerFault>
     Ok(())
 }
 
-/// Answers the lines of an input on a sink, each before more is read, and holds no more than a part of a line and what a read gave.
-pub fn run_session<S: Source, K: Sink>(
+/// Answers the lines of an input on a sink, each before more is read, up to the end or to a `:quit`, and holds no more
+/// than a part of a line and what a read gave.
+pub fn run_session<S: Source, K: Sink, G: Gate>(
     alloc: Global,
     language: &Language,
-    limit: u32,
+    first: State,
     source: &mut S,
     sink: &mut K,
+    gate: &G,
 ) -> Status
-    requires { limit ≤ 200000 }
+    requires { HasLimit first }
     ensures whole { OnTrue (is_definite result) (IfSome (S.left source.old) (λ input.
-        HasWrittenSession language.now limit input (ending_of result) (K.written sink.old) (K.written sink.new))) }
-    ensures front { IfSome (S.left source.old) (λ input. HasBegunSession language.now limit input (K.written sink.old) (K.written sink.new)) }
-    ensures end { result ≡ Status.Done → IsAtEnd (S.left source.new) }
+        HasWrittenSession language.now first input (ending_of result) (K.written sink.old) (K.written sink.new))) }
+    ensures front { IfSome (S.left source.old) (λ input. HasBegunSession language.now first input (K.written sink.old) (K.written sink.new)) }
+    ensures end { result ≡ Status.Done → IsAtEnd (S.left source.new) ⊎ HasTakenQuit (S.left source.old) (S.left source.new) }
     ensures status { IsSessionStatus result }
     // After a read that failed, each line whose end was taken is answered, and nothing else.
     ensures read { result ≡ Status.ReadFault → (taken : List ℕ) × Consumes (S.left source.old) (S.left source.new) taken × (length taken ≤ 16777216)
-        × HasAnswered language.now limit (whole_lines_of taken) (K.written sink.old) (K.written sink.new) }
+        × (end : State) × HasAnswered language.now first (whole_lines_of taken) end (K.written sink.old) (K.written sink.new) }
     ensures source_cause { HasCause (S.faults source.old) (S.faults source.new) (ended_by_read result) }
     ensures sink_cause { HasCause (K.faults sink.old) (K.faults sink.new) (ended_by_write result) }
     ensures flushed { OnTrue (is_definite result) (IsFlushed (K.written sink.old) (K.flushed sink.old) → IsFlushed (K.written sink.new) (K.flushed sink.new)) }
 {
+    let mut state = first;
     let mut held = Vec::new(alloc);
     let mut piece = [0u8; PIECE];
     let mut taken = 0usize;
@@ -216,14 +240,16 @@ pub fn run_session<S: Source, K: Sink>(
             return Status::ReadFault;
         };
         if count == 0 {
-            match answer_last(alloc, language, limit, sink, &held) {
-                Ok(()) => return Status::Done,
+            match answer_last(alloc, language, &mut state, sink, &held, gate) {
+                Ok(_) => return Status::Done,
                 Err(fault) => return Status::from(fault),
             }
         }
         let within = count.min(MAX_INPUT - taken);
-        match take_piece(alloc, language, limit, sink, &mut held, &piece[..within]) {
-            Ok(()) => {}
+        let part = &piece[..within];
+        match take_piece(alloc, language, &mut state, sink, &mut held, part, gate) {
+            Ok(Next::GoesOn) => {}
+            Ok(Next::Ends) => return Status::Done,
             Err(fault) => return Status::from(fault),
         }
         if within < count {

@@ -2,6 +2,7 @@
 ghost use Rattle.std.specs.Prelude.{◌≡◌};
 ghost use Rattle.patr_shell.specs.Outcome.{code_of};
 
+use patr_expand::ExpandCause;
 use patr_grammar::GrammarCause;
 use patr_lexicon::LexiconCause;
 
@@ -12,6 +13,8 @@ pub enum GrammarTrouble {
     TooLong,
     /// Its text is not one of the notation.
     Text(GrammarCause),
+    /// A rule is too large.
+    Expand(ExpandCause),
 }
 
 /// Why a lexicon is refused.
@@ -21,12 +24,14 @@ pub enum LexiconTrouble {
     TooLong,
     /// Its text is not one of the notation.
     Text(LexiconCause),
+    /// The features of an entry are too large.
+    Expand(ExpandCause),
 }
 
 /// How a run ends.
 #[derive(Clone, Copy, Debug, PartialEq, Eq)]
 pub enum Status {
-    /// The input was answered to its end.
+    /// The input was answered to its end, or up to a `:quit`.
     Done,
     /// The words of the command line are not of the form.
     BadWords,
@@ -40,7 +45,7 @@ pub enum Status {
     WriteFault,
     /// Memory was short.
     Memory,
-    /// The input has more than 16,777,216 bytes.
+    /// The input has more than 16,777,216 bytes, and no `:quit` ends within the first so many.
     InputTooLong,
 }
 

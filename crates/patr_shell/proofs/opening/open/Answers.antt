@@ -1,9 +1,9 @@
-use Rattle.std.proofs.Common.{◌∙◌, sym, ap, refl, length, arith, map, string_bytes}
+use Rattle.std.proofs.Common.{◌∙◌, sym, ap, refl, subst, length, arith, map, string_bytes}
 use Rattle.std.proofs.lemmas.Result.{err_from_is_err_and}
 use Rattle.patr_shell.specs.Words.{setup_meant, setup_seen}
 use Rattle.patr_shell.specs.Outcome.{grammar, lexicon}
-use Rattle.patr_shell.proofs.FewDaughters.{are_few_daughters}
-use Rattle.patr_shell.proofs.Meanings.{are_held, are_few_rules, is_opened, has_grammar, have_session, first_few}
+use Rattle.patr_model.specs.Table.{IsTable}
+use Rattle.patr_shell.proofs.Meanings.{is_read, is_opened, has_grammar, have_session, first_few, build_refused}
 use Rattle.patr_shell.proofs.opening.open.Goals as goal
 
 pub load_grammar-requires : goal.load_grammar-requires
@@ -23,25 +23,29 @@ returns-in_err-lexicon-clause-read g c =
     let read = rw (c.load_grammar.ensures.files, c.in_ok-grammar.ensures.well) at c.in_err-lexicon.ensures.read in
     rw (p.1, p.2) (λ is. (c.in-Some.setup.lexicon.now, lexicon (setup_meant c.in-Some.setup) (sym c.in_ok-setup.ensures.words ∙ ap setup_seen c.in-Some.is) refl (has_grammar _ _ _ _ c.in_ok-grammar.ensures.grammar), read is))
 
-pub build-requires-clause-held : goal.build-requires-clause-held
-build-requires-clause-held g c =
+pub build-requires-clause-grammar : goal.build-requires-clause-grammar
+build-requires-clause-grammar g c =
     let read = rw c.load_grammar.ensures.files at c.in_ok-lexicon.ensures.lexicon in
-    are_held _ _ c.load_lexicon.ensures.extends _ _ _ c.in_ok-rules.ensures _ _ _ c.in_ok-grammar.ensures.grammar read
+    (c.in_ok-grammar.ensures.grammar.stands.0, is_read _ _ c.load_lexicon.ensures.extends _ (setup_meant c.in-Some.setup) _ _ c.in_ok-grammar.ensures.grammar read)
 
-pub build-requires-clause-few_rules : goal.build-requires-clause-few_rules
-build-requires-clause-few_rules g c =
+pub returns-in_err-language-clause-fault : goal.returns-in_err-language-clause-fault
+returns-in_err-language-clause-fault g c =
+    let p = err_from_is_err_and c.from_residual-in_err-language.result c.from_residual-in_err-language.ensures.1 in
     let read = rw c.load_grammar.ensures.files at c.in_ok-lexicon.ensures.lexicon in
-    are_few_rules _ _ c.load_lexicon.ensures.extends _ _ _ c.in_ok-rules.ensures _ _ _ c.in_ok-grammar.ensures.grammar read
+    rw (p.1, p.2) (build_refused (map string_bytes c.args.words.now) (setup_meant c.in-Some.setup) (sym c.in_ok-setup.ensures.words ∙ ap setup_seen c.in-Some.is)
+    _ _ c.load_lexicon.ensures.extends _ _ _ c.in_ok-grammar.ensures.grammar read _ c.in_err-language.ensures.fault)
 
 pub returns-clause-opened : goal.returns-clause-opened
 returns-clause-opened g c =
     let read = rw c.load_grammar.ensures.files at c.in_ok-lexicon.ensures.lexicon in
-    is_opened _ _ c.load_lexicon.ensures.extends _ _ _ c.in_ok-rules.ensures _ (setup_meant c.in-Some.setup) c.in_ok-grammar.ensures.grammar read (map string_bytes c.args.words.now) (sym c.in_ok-setup.ensures.words ∙ ap setup_seen c.in-Some.is) _ c.in_ok-language.ensures.texts c.in_ok-language.ensures.rules
-
-pub build-requires-clause-few_daughters : goal.build-requires-clause-few_daughters
-build-requires-clause-few_daughters g c = are_few_daughters _ _ _ _ _ c.in_ok-rules.ensures c.in_ok-grammar.ensures.grammar
+    is_opened (map string_bytes c.args.words.now) (setup_meant c.in-Some.setup) (sym c.in_ok-setup.ensures.words ∙ ap setup_seen c.in-Some.is) _ _ c.load_lexicon.ensures.extends _ _
+    _ c.in_ok-grammar.ensures.grammar read c.len.ensures.first c.in_ok-language.language c.in_ok-language.ensures.built c.first.result c.first.ensures.state
 
 pub returns-clause-found : goal.returns-clause-found
 returns-clause-found g c =
     let read = rw c.load_grammar.ensures.files at c.in_ok-lexicon.ensures.lexicon in
-    have_session _ (map string_bytes c.args.words.now) (setup_meant c.in-Some.setup) (sym c.in_ok-setup.ensures.words ∙ ap setup_seen c.in-Some.is) _ _ _ _ c.in_ok-grammar.ensures.grammar read
+    have_session (map string_bytes c.args.words.now) (setup_meant c.in-Some.setup) (sym c.in_ok-setup.ensures.words ∙ ap setup_seen c.in-Some.is) _ _ c.load_lexicon.ensures.extends _ _
+    _ c.in_ok-grammar.ensures.grammar read c.in_ok-language.language c.in_ok-language.ensures.built
+
+pub returns-clause-table : goal.returns-clause-table
+returns-clause-table g c = subst IsTable (sym c.in_ok-language.ensures.built.texts) c.len.ensures.one_to_one

@@ -1,12 +1,11 @@
-use Rattle.std.proofs.Common.{rules, subst, IfOk, ◌≡◌, ◌++◌, string_bytes, codes, append_assoc}
-use Rattle.patr_model.specs.Faults.{at_place}
+use Rattle.std.proofs.Common.{rules, append_assoc}
 use Rattle.patr_shell.proofs.refusal.grammar_line.Goals as goal
 
 pub returns-in-BadToken : goal.returns-in-BadToken
 returns-in-BadToken c = rw c.in-BadToken.is (search (rules, append_assoc))
 
 pub returns-in-Expected : goal.returns-in-Expected
-returns-in-Expected c = rw c.in-Expected.is (subst (λ w. IfOk c.expected_line.result (λ text. string_bytes text ≡ at_place (codes "grammar") (record { line = c.in-Expected.line; column = c.in-Expected.column }) (codes "expected " ++ w))) c.expected_text.ensures c.expected_line.ensures)
+returns-in-Expected c = rw c.in-Expected.is c.expected_line.ensures
 
 pub returns-in-NotAConstituent : goal.returns-in-NotAConstituent
 returns-in-NotAConstituent c = rw c.in-NotAConstituent.is (search (rules, append_assoc))

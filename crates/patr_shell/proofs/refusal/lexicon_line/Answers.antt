@@ -15,3 +15,6 @@ returns-in-NoCategory c = rw c.in-NoCategory.is (search (rules, append_assoc))
 
 pub returns-in-LaterForm : goal.returns-in-LaterForm
 returns-in-LaterForm c = rw c.in-LaterForm.is (search (rules, append_assoc))
+
+pub returns-in-PathTooLong : goal.returns-in-PathTooLong
+returns-in-PathTooLong c = rw c.in-PathTooLong.is (search (rules, append_assoc))

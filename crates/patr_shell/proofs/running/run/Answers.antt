@@ -7,23 +7,23 @@ use Rattle.patr_shell.proofs.running.run.Goals as goal
 -- ---- a session
 
 pub returns-in-Ok-clause-whole : goal.returns-in-Ok-clause-whole
-returns-in-Ok-clause-whole g c = session_told (map string_bytes c.args.words.now) _ _ _ _ c.in-Ok.opened.language c.in-Ok.opened.limit c.in-Ok.ensures.opened c.in-Ok.ensures.table _ c.run_session.ensures.whole
+returns-in-Ok-clause-whole g c = session_told (map string_bytes c.args.words.now) _ _ _ _ c.in-Ok.opened.language c.in-Ok.opened.state c.in-Ok.ensures.opened c.in-Ok.ensures.table _ c.run_session.ensures.whole
 
 pub returns-in-Ok-clause-front : goal.returns-in-Ok-clause-front
-returns-in-Ok-clause-front g c = session_begun (map string_bytes c.args.words.now) _ _ _ _ c.in-Ok.opened.language c.in-Ok.opened.limit c.in-Ok.ensures.opened c.in-Ok.ensures.table c.run_session.ensures.front
+returns-in-Ok-clause-front g c = session_begun (map string_bytes c.args.words.now) _ _ _ _ c.in-Ok.opened.language c.in-Ok.opened.state c.in-Ok.ensures.opened c.in-Ok.ensures.table c.run_session.ensures.front
 
 pub returns-in-Ok-clause-causes : goal.returns-in-Ok-clause-causes
 returns-in-Ok-clause-causes g c = session_cause (map string_bytes c.args.words.now) _ _ c.in-Ok.ensures.found c.run_session.ensures.status
 
 pub returns-in-Ok-clause-taken : goal.returns-in-Ok-clause-taken
-returns-in-Ok-clause-taken g c = λ fault. inr (taken_told (map string_bytes c.args.words.now) _ c.in-Ok.opened.language c.in-Ok.opened.limit c.in-Ok.ensures.opened c.in-Ok.ensures.table _ _ _ _ (c.run_session.ensures.read fault))
+returns-in-Ok-clause-taken g c = λ fault. inr (taken_told (map string_bytes c.args.words.now) _ c.in-Ok.opened.language c.in-Ok.opened.state c.in-Ok.ensures.opened c.in-Ok.ensures.table _ _ _ _ (c.run_session.ensures.read fault))
 
 pub returns-in-Ok-clause-complete : goal.returns-in-Ok-clause-complete
 returns-in-Ok-clause-complete g c = λ may input shelf output.
     done_or_memory (map string_bytes c.args.words.now) _ _ may _ _ c.run_session.result c.run_session.ensures.status
     (λ is. must_rise _ _ _ c.run_session.ensures.source_cause input (ap ended_by_read is))
     (λ is. must_rise _ _ _ c.run_session.ensures.sink_cause output (ap ended_by_write is))
-    (session_told (map string_bytes c.args.words.now) _ _ _ _ c.in-Ok.opened.language c.in-Ok.opened.limit c.in-Ok.ensures.opened c.in-Ok.ensures.table _ c.run_session.ensures.whole)
+    (session_told (map string_bytes c.args.words.now) _ _ _ _ c.in-Ok.opened.language c.in-Ok.opened.state c.in-Ok.ensures.opened c.in-Ok.ensures.table _ c.run_session.ensures.whole)
 
 -- ---- a refusal
 

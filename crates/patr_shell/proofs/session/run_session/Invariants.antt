@@ -1,6 +1,7 @@
 use Rattle.std.proofs.Common.{◌≡◌, ◌≤◌, ◌-◌, ℕ, List, length}
 use Rattle.std.specs.Io.KnownBytes.{Consumes}
 use Rattle.patr_io.specs.Causes.{IsFlushed}
+use Rattle.patr_shell.specs.Spoken.{HasLimit}
 use Rattle.patr_shell.proofs.SessionStanding.{Stands}
 use Rattle.patr_shell.proofs.session.run_session.Given as goal
 
@@ -14,7 +15,8 @@ invariant-reads g l =
       read : Consumes (left l.fn.source) (left l.source) bytes;
       long : length bytes ≡ l.taken;
       within : l.taken ≤ 16777216;
-      stands : Stands l.language l.limit bytes l.held.items (written l.fn.sink) (written l.sink);
+      stands : Stands l.language l.fn.first l.state bytes l.held.items (written l.fn.sink) (written l.sink);
+      limit : HasLimit l.state;
       flushed : IsFlushed (written l.fn.sink) (g.K.Sink.flushed l.fn.sink) → IsFlushed (written l.sink) (g.K.Sink.flushed l.sink);
       source_well : g.S.Source.faults l.source ≡ g.S.Source.faults l.fn.source;
       sink_well : g.K.Sink.faults l.sink ≡ g.K.Sink.faults l.fn.sink;

@@ -1,32 +1,49 @@
-use Rattle.std.proofs.Common.{◌≡◌, ◌∷◌, ◌++◌, ◌∙◌, sym, ap, take, List, ℕ}
+use Rattle.std.proofs.Common.{◌≡◌, ◌∷◌, ◌++◌, ◌∙◌, refl, sym, ap, take, List, ℕ}
 use Rattle.patr_shell.proofs.Fronts.{OnErr-always}
-use Rattle.patr_shell.proofs.InPieces.{in_piece_stop, in_piece_line, in_piece_fault, in_piece_end, in_piece_left}
+use Rattle.patr_shell.proofs.InPieces.{in_piece_start, in_piece_stop, in_piece_line, in_piece_quit, in_piece_fault, in_piece_end, in_piece_left}
 use Rattle.patr_shell.proofs.session.take_piece.Goals as goal
 
+pub lines-init : goal.lines-init
+lines-init g c = record {
+  stands = in_piece_start _ _ _ _ _ c.requires.free c.requires.short;
+  limit = c.requires.limit;
+  flushed = λ h. h;
+  well = refl;
+}
+
 pub returns-in_err-keep-clause-front : goal.returns-in_err-keep-clause-front
-returns-in_err-keep-clause-front g c = OnErr-always c.from_residual.result (in_piece_stop _ _ _ _ _ _ _ c.lines.invariant.stands)
+returns-in_err-keep-clause-front g c = OnErr-always c.from_residual.result (in_piece_stop _ _ _ _ _ _ _ _ c.lines.invariant.stands)
 
 pub returns-in_err-keep-2-clause-front : goal.returns-in_err-keep-2-clause-front
-returns-in_err-keep-2-clause-front g c = OnErr-always c.from_residual-in_err-keep-2.result (in_piece_stop _ _ _ _ _ _ _ c.lines.invariant.stands)
+returns-in_err-keep-2-clause-front g c = OnErr-always c.from_residual-in_err-keep-2.result (in_piece_stop _ _ _ _ _ _ _ _ c.lines.invariant.stands)
 
 pub returns-in_err-answer_line-clause-front : goal.returns-in_err-answer_line-clause-front
 returns-in_err-answer_line-clause-front g c =
     let kept : c.deref.result.now ≡ take 4098 (c.lines.held.items ++ c.in-Some.front.now) = c.deref.ensures.value ∙ c.in_ok-keep.ensures in
     let cut : c.lines.rest.now ≡ c.in-Some.front.now ++ 10 ∷ c.in-Some.behind.now = c.in-Some.ensures.cut in
-    OnErr-always c.from_residual-in_err-answer_line.result (in_piece_fault _ _ _ _ _ _ _ c.lines.invariant.stands _ _ _ cut c.in-Some.ensures.free kept _ c.in_err-answer_line.ensures.front)
+    OnErr-always c.from_residual-in_err-answer_line.result (in_piece_fault _ _ _ _ _ _ _ _ c.lines.invariant.stands _ _ _ cut c.in-Some.ensures.free kept _ c.in_err-answer_line.ensures.front)
+
+pub returns-in-Ends-clause-told : goal.returns-in-Ends-clause-told
+returns-in-Ends-clause-told g c =
+    let kept : c.deref.result.now ≡ take 4098 (c.lines.held.items ++ c.in-Some.front.now) = c.deref.ensures.value ∙ c.in_ok-keep.ensures in
+    let cut : c.lines.rest.now ≡ c.in-Some.front.now ++ 10 ∷ c.in-Some.behind.now = c.in-Some.ensures.cut in
+    let ended = rw c.in-Ends.is at c.in_ok-answer_line.ensures.told in
+    in_piece_quit _ _ _ _ _ _ _ _ c.lines.invariant.stands _ _ _ cut c.in-Some.ensures.free kept _ ended
 
 pub lines-preserved : goal.lines-preserved
 lines-preserved g c =
     let kept : c.deref.result.now ≡ take 4098 (c.lines.held.items ++ c.in-Some.front.now) = c.deref.ensures.value ∙ c.in_ok-keep.ensures in
     let cut : c.lines.rest.now ≡ c.in-Some.front.now ++ 10 ∷ c.in-Some.behind.now = c.in-Some.ensures.cut in
+    let answered = rw c.in-GoesOn.is at c.in_ok-answer_line.ensures.told in
     record {
-      stands = rw c.clear.ensures.items (in_piece_line _ _ _ _ _ _ _ c.lines.invariant.stands _ _ _ cut c.in-Some.ensures.free kept _ c.in_ok-answer_line.ensures.text);
+      stands = rw c.clear.ensures.items (in_piece_line _ _ _ _ _ _ _ _ c.lines.invariant.stands _ _ _ cut c.in-Some.ensures.free kept _ _ answered);
+      limit = c.in_ok-answer_line.ensures.limit;
       flushed = λ h. c.in_ok-answer_line.ensures.flushed (c.lines.invariant.flushed h);
       well = c.in_ok-answer_line.ensures.cause.kept ∙ c.lines.invariant.well;
     }
 
-pub returns-clause-text : goal.returns-clause-text
-returns-clause-text g c = in_piece_end _ _ _ _ _ _ _ c.lines.invariant.stands c.in_default.ensures.none
+pub returns-clause-told : goal.returns-clause-told
+returns-clause-told g c = in_piece_end _ _ _ _ _ _ _ _ c.lines.invariant.stands c.in_default.ensures.none
 
 pub returns-clause-held : goal.returns-clause-held
-returns-clause-held g c = c.in_ok-keep-2.ensures ∙ ap (λ (l : List ℕ). take 4098 l) (sym (in_piece_left _ _ _ _ _ _ _ c.lines.invariant.stands c.in_default.ensures.none))
+returns-clause-held g c = λ goes. c.in_ok-keep-2.ensures ∙ ap (λ (l : List ℕ). take 4098 l) (sym (in_piece_left _ _ _ _ _ _ _ _ c.lines.invariant.stands c.in_default.ensures.none))

@@ -1,0 +1,177 @@
+//! The reply to a line.
+ghost use Rattle.std.specs.Prelude.{◌≡◌, ℕ, ◌<◌, List, length, map, IfOk, IfSome, string_bytes};
+ghost use Rattle.patr_model.specs.Solved.{solved};
+ghost use Rattle.patr_model.specs.Notations.{lines_with_commands};
+ghost use Rattle.patr_model.specs.Session.{Numbering, AgreesWith, IsSentenceReply, words_of};
+ghost use Rattle.patr_shell.specs.Spoken.{grounds, state_seen, HasLimit, MayBeSet};
+ghost use Rattle.patr_shell.specs.Answering.{IsAnswer, IsAnswerToCommand, IsAnswerToWords};
+
+use crate::command::{Command, command_of, on_off};
+use crate::state::State;
+use crate::{Gate, Language, Memory};
+use patr_parse::{Fault, parse_alone, words_of};
+use patr_reply::{refusal, reply};
+use patr_unify::Steps;
+use std::alloc::{AllocError, Global};
+use std::marker::Brand;
+use std::sync::ledger::{Blank, Ledger};
+
+/// A reply, and the state of the session behind it.
+#[derive(Drop)]
+pub struct Reply {
+    pub text: String,
+    pub state: State,
+}
+
+/// A sentence as it is written, and its words.
+#[derive(Clone, Copy)]
+struct Sentence<'a> {
+    text: &'a str,
+    words: &'a [&'a str],
+}
+
+/// The reply to a sentence. Its decisions are counted in this ledger.
+fn sentence_reply<L: Ledger, G: Gate>(
+    alloc: Global,
+    language: &Language,
+    state: State,
+    sentence: Sentence<'_>,
+    gate: &G,
+    blank: Blank,
+) -> Result<String, Memory>
+    requires name { blank.name ≡ L.name }
+    requires parts { blank.parts ≡ L.parts }
+    requires some_parts { 0 < blank.parts }
+    requires words { map (λ w. w.now) sentence.words.now ≡ words_of sentence.text.now }
+    requires some { 0 < length sentence.words.now }
+    requires limit { HasLimit state }
+    ensures { (N : Numbering) → AgreesWith N language.now.texts → IfOk result (λ text. IsSentenceReply solved (grounds N language.now) (state_seen state) (words_of sentence.entry.text.now) (string_bytes text)) }
+{
+    let symbols = language.symbols();
+    let library = language.library();
+    let mut steps = Steps::<L>::new(blank);
+    match parse_alone(
+        alloc,
+        library,
+        symbols,
+        sentence.text,
+        state.limit,
+        gate,
+        &mut steps,
+    ) {
+        Ok(parsed) => {
+            let nodes = parsed.view();
+            reply(
+                alloc,
+                symbols,
+                library,
+                &parsed,
+                &nodes,
+                state.features,
+                state.count,
+            )
+        }
+        Err(Fault::Refused(cause)) => refusal(alloc, cause, sentence.words),
+        Err(Fault::Memory) => Err(AllocError),
+    }
+}
+
+/// What a command comes to; none where it ends the session.
+fn command_answer(alloc: Global, state: State, command: Command) -> Result<Option<Reply>, Memory>
+    requires limit { HasLimit state }
+    requires set { MayBeSet command }
+    ensures answer { IfOk result (λ answer. IsAnswerToCommand state command answer) }
+    ensures limit { IfOk result (λ answer. IfSome answer (λ r. HasLimit r.state)) }
+{
+    let State {
+        limit,
+        features,
+        count,
+    } = state;
+    match command {
+        Command::Limit(limit) => Ok(Some(Reply {
+            text: format!(in alloc; "limit {limit}\n")?,
+            state: State {
+                limit,
+                features,
+                count,
+            },
+        })),
+        Command::Features(features) => Ok(Some(Reply {
+            text: format!(in alloc; "features {}\n", on_off(features))?,
+            state: State {
+                limit,
+                features,
+                count,
+            },
+        })),
+        Command::Count(count) => Ok(Some(Reply {
+            text: format!(in alloc; "count {}\n", on_off(count))?,
+            state: State {
+                limit,
+                features,
+                count,
+            },
+        })),
+        Command::Quit => Ok(None),
+    }
+}
+
+/// What a line of text comes to; none where it ends the session.
+fn text_answer<G: Gate>(
+    alloc: Global,
+    language: &Language,
+    state: State,
+    line: &str,
+    gate: &G,
+) -> Result<Option<Reply>, Memory>
+    requires limit { HasLimit state }
+    ensures answer { IfOk result (λ answer. IsAnswerToWords language.now state (words_of line.now) answer) }
+    ensures limit { IfOk result (λ answer. IfSome answer (λ r. HasLimit r.state)) }
+{
+    let words = words_of(alloc, line)?;
+    if words.is_empty() {
+        let text = String::new(alloc);
+        return Ok(Some(Reply { text, state }));
+    }
+    if !words[0].starts_with(':') {
+        let sentence = Sentence {
+            text: line,
+            words: &words,
+        };
+        let blank = Blank::new(1);
+        let text = sentence_reply::<Brand, G>(alloc, language, state, sentence, gate, blank)?;
+        return Ok(Some(Reply { text, state }));
+    }
+    match command_of(&words) {
+        Some(command) => command_answer(alloc, state, command),
+        None => {
+            let text = String::from_str(alloc, "error: bad command\n")?;
+            Ok(Some(Reply { text, state }))
+        }
+    }
+}
+
+/// What a line without its end comes to, by the first that fits: a reply and the state behind it, or none where it
+/// ends the session. The reply to a line of white space is empty. Fails for want of memory alone.
+pub fn line_answer<G: Gate>(
+    alloc: Global,
+    language: &Language,
+    state: State,
+    line: &[u8],
+    gate: &G,
+) -> Result<Option<Reply>, Memory>
+    requires limit { HasLimit state }
+    ensures answer { IfOk result (λ answer. IsAnswer language.now state line.now answer) }
+    ensures limit { IfOk result (λ answer. IfSome answer (λ r. HasLimit r.state)) }
+{
+    if line.len() > 4096 {
+        let text = String::from_str(alloc, "error: line too long\n")?;
+        return Ok(Some(Reply { text, state }));
+    }
+    let Ok(text) = std::str::from_utf8(line) else {
+        let text = String::from_str(alloc, "error: line is not UTF-8\n")?;
+        return Ok(Some(Reply { text, state }));
+    };
+    text_answer(alloc, language, state, text, gate)
+}
