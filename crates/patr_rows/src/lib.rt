@@ -4,6 +4,8 @@
 #[cfg(test)]
 mod devices;
 #[cfg(test)]
+mod equations;
+#[cfg(test)]
 mod faults;
 #[cfg(test)]
 mod rows;

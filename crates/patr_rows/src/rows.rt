@@ -3,7 +3,7 @@
 use crate::devices::{gives, well};
 use std::test::Fail;
 
-const FILES: &[&str] = &["g", "l"];
+pub const FILES: &[&str] = &["g", "l"];
 
 const BARKS: &[u8] = b"Rule S -> NP VP\nRule NP -> Det N\nRule VP -> V\n";
 
@@ -17,12 +17,12 @@ const PARKS: &[u8] =
 
 /// Two files, an input, and what a run over them writes.
 #[derive(Clone, Copy)]
-struct Row {
-    grammar: &'static [u8],
-    lexicon: &'static [u8],
-    input: &'static [u8],
-    code: u8,
-    written: &'static [u8],
+pub struct Row {
+    pub grammar: &'static [u8],
+    pub lexicon: &'static [u8],
+    pub input: &'static [u8],
+    pub code: u8,
+    pub written: &'static [u8],
 }
 
 /// Sessions that are answered.
@@ -51,7 +51,7 @@ const SENTENCES: &[Row] = &[
     Row {
         grammar: BARKS,
         lexicon: ANIMALS,
-        input: b" \t\r\n\r\nthe cat barks loudly\r\n\xFF\n\t:quit\nthe\tdog  barks \r",
+        input: b" \t\r\n\r\nthe cat barks loudly\r\n\xFF\n\t:quit now\nthe\tdog  barks \r",
         code: 0,
         written: b"error: unknown word at 2: cat\nerror: line is not UTF-8\nerror: bad command\nanalyses 1\n1 (S (NP (Det the) (N dog)) (VP (V barks)))\n",
     },
@@ -94,11 +94,25 @@ fn sentences_are_answered(rt: HostRuntime) -> Result<(), Fail> {
 /// Files that are refused.
 const REFUSED: &[Row] = &[
     Row {
-        grammar: b"Rule S -> NP VP <S f> = x",
+        grammar: b"Rule S -> NP VP <NP agr> =",
         lexicon: ANIMALS,
         input: b"the dog barks\n",
         code: 2,
-        written: b"error: grammar 1:17: not built yet\n",
+        written: b"error: grammar 1:27: expected a path or an atom\n",
+    },
+    Row {
+        grammar: b"Rule S -> A <B f> = x",
+        lexicon: ANIMALS,
+        input: b"",
+        code: 2,
+        written: b"error: grammar 1:14: not a constituent\n",
+    },
+    Row {
+        grammar: b"Rule S -> A : <S f",
+        lexicon: ANIMALS,
+        input: b"",
+        code: 2,
+        written: b"error: grammar 1:19: expected '>'\n",
     },
     Row {
         grammar: b"",
@@ -221,10 +235,17 @@ const REFUSED: &[Row] = &[
     },
     Row {
         grammar: BARKS,
-        lexicon: b"\\w a\n\\c A\n\\f ; no\n  <agr> = x",
+        lexicon: b"\\w a\n\\c A\n\\f ; no\n  { <agr> = x }",
         input: b"",
         code: 3,
         written: b"error: lexicon 4:3: not built yet\n",
+    },
+    Row {
+        grammar: BARKS,
+        lexicon: b"\\w a\n\\c A\n\\f <x> =",
+        input: b"",
+        code: 3,
+        written: b"error: lexicon 3:9: expected a path or an atom\n",
     },
     Row {
         grammar: BARKS,
