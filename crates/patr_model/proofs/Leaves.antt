@@ -7,7 +7,7 @@ use Rattle.patr_model.specs.Derivation.{Rules, EntryVariant, Leaf, entry_variant
 use Rattle.patr_model.specs.Solution.{Chain, SolvesEntry, Solution, IsSolvable, IsLeastValue, with_slots, slots_from}
 use Rattle.patr_model.specs.Variants.{variant, RuleAt, IsLeastOf, LeavesAreRules}
 use Rattle.patr_model.proofs.Maps.{some_inj, maps_transitive, maps_reflexive, maps_into_shorter, carries_arc}
-use Rattle.patr_model.proofs.Steps.{arc_value, slot_there, slots_structure, slots_has, new_is_value}
+use Rattle.patr_model.proofs.Steps.{arc_value, chain_value, slot_there, slots_structure, slots_has, new_is_value}
 use Rattle.patr_model.proofs.Variants.{all_longer}
 use Rattle.patr_model.proofs.Chains.{holds_longer}
 
@@ -15,6 +15,22 @@ one_slot : (vs : List Value) (x : Value) → length vs ≡ 1 → slice_get vs 0 
 one_slot [] x n h = cc
 one_slot (v ∷ []) x n h = ap (λ u. u ∷ []) (some_inj v x h)
 one_slot (v ∷ w ∷ vs) x n h = absurd (omega (arith, n))
+
+-- a leaf is solved as its entry is
+module _ (g : Rules) (e k i j : ℕ) (entry : EntryVariant) (q : entry_variant g e k ≡ Some entry) where
+  pub leaf_solves : (G : Structure) (v : Value) → Solution g (Leaf e k i j) G v → SolvesEntry G entry v
+  leaf_solves G v s =
+      let w = s.solves.1 in
+      let same : w ≡ v = some_inj w v (ap (λ us. slice_get us 0) (sym s.solves.4) ∙ s.value.complete tt) in
+      subst (SolvesEntry G entry) same (subst (λ x. SolvesEntry G x w) (some_inj s.solves.0 entry (sym s.solves.2 ∙ q)) s.solves.3)
+
+  pub entry_solution : (G : Structure) (v : Value) → IsStructure G → SolvesEntry G entry v → Solution g (Leaf e k i j) G v
+  entry_solution G v st s = record {
+    structure = st;
+    slots = v ∷ [];
+    solves = (entry, v, q, s, refl);
+    value = record { held = chain_value G entry.chain s.0 v s.1 s.3; complete = λ c. refl; partial = λ p. let bad : None ≡ Some p.0 = p.1 in cc };
+  }
 
 module _ (g : Rules) (e k i j : ℕ) (entry : EntryVariant) (q : entry_variant g e k ≡ Some entry) (chain : entry.chain ≡ []) where
   -- what solves the entry is the value at which its equations hold
@@ -24,10 +40,7 @@ module _ (g : Rules) (e k i j : ℕ) (entry : EntryVariant) (q : entry_variant g
       subst (λ y. IsValue G y × AllByRecursion (Holds G (y ∷ [])) entry.equations) same (s.1, s.2)
 
   leaf_holds : (G : Structure) (v : Value) → Solution g (Leaf e k i j) G v → IsValue G v × AllByRecursion (Holds G (v ∷ [])) entry.equations
-  leaf_holds G v s =
-      let w = s.solves.1 in
-      let same : w ≡ v = some_inj w v (ap (λ us. slice_get us 0) (sym s.solves.4) ∙ s.value.complete tt) in
-      entry_holds G v (subst (SolvesEntry G entry) same (subst (λ x. SolvesEntry G x w) (some_inj s.solves.0 entry (sym s.solves.2 ∙ q)) s.solves.3))
+  leaf_holds G v s = entry_holds G v (leaf_solves g e k i j entry q G v s)
 
   -- a node of its slot, behind any solution
   with_node : (G : Structure) (v : Value) → Solution g (Leaf e k i j) G v → IsStructure (with_slots G (v ∷ [])) × RuleAt (variant (entry.category ∷ []) entry.equations) (with_slots G (v ∷ [])) (Node (length G))
@@ -61,12 +74,7 @@ module _ (g : Rules) (e k i j : ℕ) (entry : EntryVariant) (q : entry_variant g
           solution = (
             M,
             x,
-            record {
-              structure = least.structure;
-              slots = x ∷ [];
-              solves = (entry, x, q, (x, held, eqs, subst (λ rs. Chain M rs x x) (sym chain) refl), refl);
-              value = record { held = held; complete = λ c. refl; partial = λ p. let bad : None ≡ Some p.0 = p.1 in cc };
-            },
+            entry_solution g e k i j entry q M x least.structure (x, held, eqs, subst (λ rs. Chain M rs x x) (sym chain) refl),
             (itself, itself),
           );
           least = λ G v s.

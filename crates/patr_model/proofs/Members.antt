@@ -1,6 +1,7 @@
 -- What holds of each member of a list.
-use Rattle.std.proofs.Common.{◌≡◌, ℕ, zero, suc, ◌<◌, List, [], ◌∷◌, ◌++◌, map, flat_map, length, get_or, Some, slice_get, Contains, arith, subst}
+use Rattle.std.proofs.Common.{◌≡◌, ℕ, zero, suc, ◌<◌, List, [], ◌∷◌, ◌++◌, map, flat_map, reverse, length, get_or, Some, slice_get, Contains, arith, sym, subst}
 use Rattle.std.specs.List.{AllByRecursion}
+use Rattle.std.proofs.lemmas.Grind.{reverse_onto}
 use Rattle.std.proofs.lemmas.Option.{slice_get_within, get_or_from_slice_get}
 use Rattle.patr_model.specs.Grammar.{Row, Rows, Done, One, OneOf, Optional, None', Or, products, variants, variants_of}
 use Rattle.patr_model.proofs.Maps.{some_inj}
@@ -33,6 +34,15 @@ module _ {X : Type 0} (P : X → Type 0) where
   pub all_right : (xs ys : List X) → AllByRecursion P (xs ++ ys) → AllByRecursion P ys
   all_right [] ys h = h
   all_right (x ∷ xs) ys h = all_right xs ys h.1
+
+  pub all_reverse : (xs : List X) → AllByRecursion P xs → AllByRecursion P (reverse xs)
+  all_reverse [] h = tt
+  all_reverse (x ∷ xs) h = subst (AllByRecursion P) (sym (reverse_onto xs x [])) (all_append (reverse xs) (x ∷ []) (all_reverse xs h.1) (h.0, tt))
+
+  -- less of each
+  pub all_weaker : (Q : X → Type 0) → ((x : X) → P x → Q x) → (xs : List X) → AllByRecursion P xs → AllByRecursion Q xs
+  all_weaker Q f [] h = tt
+  all_weaker Q f (x ∷ xs) h = (f x h.0, all_weaker Q f xs h.1)
 
   -- those that a function makes
   pub all_map : {A : Type 0} (f : A → X) (Q : A → Type 0) → ((a : A) → Q a → P (f a)) → (xs : List A) → AllByRecursion Q xs → AllByRecursion P (map f xs)

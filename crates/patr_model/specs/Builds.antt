@@ -1,22 +1,20 @@
 -- Laws of what a build makes.
-use Rattle.std.specs.Prelude.{◌≡◌, ℕ, suc, ◌<◌, List, [], ◌∷◌, ◌++◌, map, length, Some}
-use Rattle.std.specs.List.{AllByRecursion}
+use Rattle.std.specs.Prelude.{◌≡◌, ℕ, suc, ◌<◌, List, [], ◌∷◌, ◌++◌, length, Some}
 use Rattle.patr_model.specs.Equation.{Equation}
 use Rattle.patr_model.specs.Derivation.{Rules, RuleVariant, EntryVariant, rule_variant, entry_variant, Derivation, Begin, seen, IsPartial, IsComplete}
 use Rattle.patr_model.specs.Chart.{IsDerivation}
 use Rattle.patr_model.specs.Structure.{Value, Structure}
 use Rattle.patr_model.specs.Solution.{IsSolvable, IsLeastValue}
 use Rattle.patr_model.specs.Solved.{solved}
-use Rattle.patr_model.specs.Grammar.{Done}
-use Rattle.patr_model.specs.Plain.{IsBare, IsPlain, bare, stated, IsFact, slot_category, category_of, SameCategory}
+use Rattle.patr_model.specs.Plain.{IsPlain, bare, stated, IsFact, slot_category, category_of, SameCategory}
 use Rattle.patr_model.specs.Variants.{AreWithin}
 use Rattle.patr_model.specs.Laws.{StatesCategories}
 use Rattle.patr_model.specs.Session.{Numbering}
-use Rattle.patr_model.specs.Productions.{RuleText, Grammar}
+use Rattle.patr_model.specs.Productions.{Grammar}
 use Rattle.patr_model.specs.LexiconText.{EntryOf}
 use Rattle.patr_model.specs.Renaming.{Each, SameGrounds}
 use Rattle.patr_model.specs.Agreeing.{SameGrammar, SameEntryText}
-use Rattle.patr_model.specs.Build.{Keys, keys_of, build, build_fault, grounds}
+use Rattle.patr_model.specs.Build.{Keys, build, build_fault, grounds}
 
 -- The variants, and what is too large, do not depend on what stands for the words: texts and numbers that belong together give the same.
 abbrev pub BuildsIgnoreWords : Type 0
@@ -77,27 +75,3 @@ pub record SolvedGoByCategory : Type 0 where
   pub daughters : (g : Rules) (cat : ℕ) → HasCategories g cat → HasNoChains g → (ws : List ℕ) (t : Derivation) → IsDerivation g ws t → IsSolvable g t → IsPlain g t
   pub whole : (g : Rules) (cat : ℕ) → HasCategories g cat → HasNoChains g → (ws : List ℕ) (t : Derivation) → IsDerivation g ws t → IsComplete g t → (M : Structure) (m : Value) → IsLeastValue g t M m
       → ((solved g cat).IsWhole t → category_of g t ≡ Some g.start) × (category_of g t ≡ Some g.start → (solved g cat).IsWhole t)
-
--- ---- without equations
-
--- the attributes that a build states are three
-pub record AreDistinct (keys : Keys) : Type 0 where
-  pub cat_lex : keys.cat ≡ keys.lex → ⊥
-  pub cat_gloss : keys.cat ≡ keys.gloss → ⊥
-  pub lex_gloss : keys.lex ≡ keys.gloss → ⊥
-
--- no rule has an equation, and no entry a feature
-pub record HasNoEquations {W : Type 0} (g : Grammar W) (l : List (EntryOf W)) : Type 0 where
-  pub rules : AllByRecursion (λ (r : RuleText W). r.equations ≡ Done) g.rules
-  pub entries : AllByRecursion (λ (e : EntryOf W). e.features ≡ Done) l
-
--- where nothing is written besides categories, words and glosses, and the category alone is compared, categories say all that the variants do
-abbrev pub BuildsAreBareBy : Type 0 → Type 0
-BuildsAreBareBy W = (number : W → ℕ) (keys : Keys) (g : Grammar W) (l : List (EntryOf W)) → AreDistinct keys → map (map number) g.restrictor ≡ (keys.cat ∷ []) ∷ [] → HasNoEquations g l
-    → IsBare (build number keys g l) keys.cat
-
--- so it is by texts, and by their numbers
-pub record BuildsAreBare : Type 0 where
-  pub by_texts : BuildsAreBareBy (List ℕ)
-  pub by_numbers : BuildsAreBareBy ℕ
-  pub keys : (N : Numbering) → AreDistinct (keys_of N)

@@ -1,7 +1,7 @@
 -- Laws of the definitions, each the contract of a function with an empty body.
 use Rattle.std.specs.Prelude.{length, ◌+◌, is_some, cond, flat_map, None, ◌≤◌, ◌<◌, ◌^◌, true, false, ◌||◌, nat_eq, decimal, Ok, slice_get, Contains, Bool, [], ◌∷◌, suc, ◌≡◌, ℕ, List, ◌++◌, Option, Some, None}
 use Rattle.std.specs.List.{AllByRecursion}
-use Rattle.patr_model.specs.Chart.{Judgement, InChart, IsDerivation, IsAnalysis, IsIn, EachOnce, IsLicensed}
+use Rattle.patr_model.specs.Chart.{Judgement, InChart, IsDerivation, IsIn, EachOnce}
 use Rattle.patr_model.specs.Plain.{plain, IsPlain, IsBare}
 use Rattle.patr_model.specs.Solved.{solved}
 use Rattle.patr_model.specs.Settled.{SideNode, Target, Marks, Images, IsSettled, IsClosed, IsFollowed}
@@ -16,7 +16,6 @@ use Rattle.patr_model.specs.Text.{Look, Outline, outline_text, comes_before, in_
 use Rattle.patr_model.specs.Stack.{Event, OfAtom, OfAgain, Opens, OfArc, Closes, events, opened, met_again, event_text, Frame, frame, begun, rest_of, building, fed}
 use Rattle.patr_model.specs.Pairs.{Pair, pair, Waits, IsOnPairs, set_image, pairs_of, left_over}
 use Rattle.patr_model.specs.Items.{Expect, AValue, Follows, item_of, item_front, text_of}
-use Rattle.patr_model.specs.Table.{table_look, table_number, IsTable, IsInTable, AllTexts}
 use Rattle.patr_model.specs.declared.front.Kind.TheVariants.{Word}
 use Rattle.patr_model.specs.declared.front.Front.TheVariants.{Piece}
 use Rattle.patr_model.specs.Tokens.{Place, front, scan}
@@ -62,20 +61,6 @@ pub record HaveLeastValues (g : Rules) (cat : ℕ) (ws : List ℕ) : Type 0 wher
   pub edges : (t : Derivation) → InChart (solved g cat) g ws t → (M : Structure) × (m : Value) × IsLeastValue g t M m
   pub rules : (r k i : ℕ) → IsSolvable g (Begin r k i) → (M : Structure) × (m : Value) × IsLeastValue g (Begin r k i) M m
 
--- prediction drops no analysis
-abbrev pub PredictionDropsNone : Type 0
-PredictionDropsNone = (g : Rules) (ws : List ℕ) (cat : ℕ) → StatesCategories g cat → HaveLeastValues g cat ws → (t : Derivation) → IsAnalysis (solved g cat) g ws t → InChart (solved g cat) g ws t
-
--- the closed chart has the edges that stand in some licensed list
-pub record IsLicensedSet (j : Judgement) (g : Rules) (ws : List ℕ) (t : Derivation) : Type 0 where
-  pub has_list : InChart j g ws t → (ts : List Derivation) × IsLicensed j g ws ts × IsIn ts t
-  pub in_list : (ts : List Derivation) → IsLicensed j g ws ts → IsIn ts t → InChart j g ws t
-
--- the edges of the closed chart, plain or by solutions, are those that stand in licensed lists
-pub record ChartIsLicensed : Type 0 where
-  pub of_solved : (g : Rules) (cat : ℕ) (ws : List ℕ) (t : Derivation) → IsLicensedSet (solved g cat) g ws t
-  pub of_plain : (g : Rules) (ws : List ℕ) (t : Derivation) → IsLicensedSet (plain g) g ws t
-
 -- different edges of a list that has them all are no more than it
 abbrev pub NoMoreThanAll : Type 0
 NoMoreThanAll = (ts us : List Derivation) → EachOnce ts → ((t : Derivation) → IsIn ts t → IsIn us t) → length ts ≤ length us
@@ -118,15 +103,6 @@ pub record CategoriesAreOne (g : Rules) (t : Derivation) (A : Structure) (v : Va
 -- a restricted category is the same, from whichever least value of a derivation it is taken
 abbrev pub CategoriesAreOneAll : Type 0
 CategoriesAreOneAll = (g : Rules) (t : Derivation) (A : Structure) (v : Value) (B : Structure) (w : Value) → IsLeastValue g t A v → IsLeastValue g t B w → CategoriesAreOne g t A v B w
-
--- without written equations, the plain closed chart and the solved one have the same edges
-pub record SameCharts (g : Rules) (cat : ℕ) (ws : List ℕ) (t : Derivation) : Type 0 where
-  pub solved_in_plain : InChart (solved g cat) g ws t → InChart (plain g) g ws t
-  pub plain_in_solved : HaveLeastValues g cat ws → InChart (plain g) g ws t → InChart (solved g cat) g ws t
-
--- without written equations, categories alone give the same edges as unification, as far as least values are there
-abbrev pub PlainChartIsSolved : Type 0
-PlainChartIsSolved = (g : Rules) (cat : ℕ) → IsBare g cat → (ws : List ℕ) (t : Derivation) → SameCharts g cat ws t
 
 -- different symbols have different texts
 abbrev pub TextsDiffer : Look → Type 0
@@ -279,15 +255,6 @@ pub record ReadsByItems (l : Look) : Type 0 where
 -- a canonical text is read event by event, whatever the texts of the symbols are
 abbrev pub ReadsByItemsAll : Type 0
 ReadsByItemsAll = (l : Look) → ReadsByItems l
-
--- A table of different texts gives a Look with different texts, and has the symbols of what it has the texts of.
-pub record TableGives (table : List (List ℕ)) (order : List ℕ) : Type 0 where
-  pub differ : IsTable table → TextsDiffer (table_look table order)
-  pub symbols : (text : List ℕ) → ((o : Outline (List ℕ)) → parsed text ≡ Some o → AllTexts (IsInTable table) o) → HasSymbols (table_look table order) (table_number table) text
-
--- each table of different texts serves for canonical texts, both to write them and to read them back
-abbrev pub TablesGive : Type 0
-TablesGive = (table : List (List ℕ)) (order : List ℕ) → TableGives table order
 
 -- two Looks with one order give these symbols one text
 abbrev pub GiveOneText : Look → Look → ℕ → Type 0

@@ -13,7 +13,6 @@ pub mod Grammar
 pub mod Text
 pub mod Session
 pub mod Run
-pub mod Samples
 pub mod Settled
 pub mod Tokens
 pub mod Lexemes
@@ -42,6 +41,5 @@ pub mod Chains
 pub mod Longer
 pub mod Renaming
 pub mod Agreeing
-pub mod Spelling
 pub mod Openings
 pub mod Builds

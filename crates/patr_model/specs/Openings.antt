@@ -21,10 +21,6 @@ HasOneOut notation = (N N' : Numbering) (words : List (List ℕ)) (files : List 
 abbrev pub OpeningsAreOne : Type 0
 OpeningsAreOne = (stage : Stage) → HasOneOpening (notations stage lines_with_commands)
 
--- and so are runs
-abbrev pub RunsAreOne : Type 0
-RunsAreOne = (stage : Stage) → HasOneOut (notations stage lines_with_commands)
-
 -- the replies to lines none of which ends the session, from one state to another
 abbrev pub Answered : Judge → LineForms → Grounds → State → List (List ℕ) → List ℕ → State → Type 0
 Answered judge forms s st [] text end = (text ≡ []) × (end ≡ st)

@@ -159,7 +159,3 @@ RunsIgnoreNumbers = (stage : Stage) → IgnoresNumbers (notations stage lines_wi
 -- the variants of one rule, read under two numberings, are one for one the same
 abbrev pub VariantsIgnoreNumbers : Type 0
 VariantsIgnoreNumbers = (N N' : Numbering) (cat cat' : ℕ) (r r' : WrittenRule) → AreOne N N' cat cat' → SameWrittenRule N N' r r' → Each (SameRule N N') (rule_variants cat r) (rule_variants cat' r')
-
--- What a session stands on is there for each numbering, where each of its symbols is the number of a text.
-abbrev pub EachNumberingServes : Type 0
-EachNumberingServes = (s : Grounds) → SameGrounds s s → (N : Numbering) → (s' : Grounds) × (s'.names ≡ N) × SameGrounds s s'

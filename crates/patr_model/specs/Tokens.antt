@@ -1,8 +1,8 @@
 -- The tokens of a text, with their places: what stands at the front of the bytes, and then what stands behind it.
 --     front bytes            what stands at the front, and how many bytes it has
 --     scan skip at p bytes   the tokens of the bytes, or the place of the first character that is refused
-use Rattle.std.specs.Prelude.{ℕ, zero, suc, ◌+◌, ◌-◌, List, [], ◌∷◌, take, Bool, false, cond, not, ◌&&◌, ◌||◌, nat_eq, nat_lt, Option, Some, None, Result, Ok, Err}
-use Rattle.std.specs.List.{prefix_len}
+use Rattle.std.specs.Prelude.{◌≡◌, ℕ, zero, suc, ◌+◌, ◌-◌, List, [], ◌∷◌, take, Bool, false, cond, not, ◌&&◌, ◌||◌, nat_eq, nat_lt, Option, Some, None, Result, Ok, Err}
+use Rattle.std.specs.List.{AllByRecursion, prefix_len}
 use Rattle.patr_model.specs.declared.front.Kind.{Kind}
 use Rattle.patr_model.specs.declared.front.Kind.TheVariants.{Less, Greater, Equal, OpenBrace, CloseBrace, OpenParen, CloseParen, OpenBracket, CloseBracket, Slash, Colon, Dot, Arrow, Word}
 use Rattle.patr_model.specs.declared.front.Front.{Front}
@@ -30,6 +30,11 @@ is_white b = nat_eq b 32 || nat_eq b 9 || nat_eq b 10 || nat_eq b 13
 -- a control character that is no white space
 abbrev pub is_control : ℕ → Bool
 is_control b = (nat_lt b 32 && not (is_white b)) || nat_eq b 127
+
+-- the bytes are no white space and no control characters, and there is one at least
+abbrev pub IsPlainWord : List ℕ → Type 0
+IsPlainWord [] = ⊥
+IsPlainWord (b ∷ bs) = AllByRecursion (λ c. (is_white c ≡ false) × (is_control c ≡ false)) (b ∷ bs)
 
 -- the kind of a token that is this character alone
 abbrev pub single : ℕ → Option Kind

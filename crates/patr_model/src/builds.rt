@@ -1,6 +1,6 @@
 //! Laws of what a build makes of a grammar and a lexicon.
 
-ghost use Rattle.patr_model.specs.Builds.{BuildsIgnoreWords, BuildsIgnoreNumbers, BuildsStateCategories, FollowingIsCategory, SolvedGoByCategory, BuildsAreBare};
+ghost use Rattle.patr_model.specs.Builds.{BuildsIgnoreWords, BuildsIgnoreNumbers, BuildsStateCategories, FollowingIsCategory, SolvedGoByCategory};
 
 /// What a build makes does not depend on what stands for the words.
 pub fn builds_ignore_words()
@@ -25,9 +25,4 @@ pub fn following_is_category()
 /// What has a solution goes by categories, and so do whole analyses.
 pub fn solved_go_by_category()
     ensures { SolvedGoByCategory }
-{}
-
-/// Without equations, categories say all that the variants of a build do.
-pub fn builds_are_bare()
-    ensures { BuildsAreBare }
 {}

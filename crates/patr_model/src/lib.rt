@@ -6,22 +6,20 @@ mod field;
 mod front;
 mod notation;
 
-ghost use Rattle.patr_model.specs.Samples.{SamplesOfMaps};
-ghost use Rattle.patr_model.specs.Laws.{SubsumptionIsOrder, UnifiersAreSame, LeastValuesExtend, UnifierIsLeastValue, PredictionDropsNone, SameAsUnifier, ClosedMarksAreSettled, ChartIsLicensed, NoMoreThanAll, OneReply, PlainIsSolvable, CategoriesAreOneAll, PlainChartIsSolved, CanonicalTexts, TextsAreRead, ReadingIsBack, LeastTextsAreOneAll, WalksAreWhole, Printing, WalksByStack, MapsByPairsAll, BuildsByStack, SortedIsInOrder, ReadsByItemsAll, TablesGive, TextsAreLocal};
+ghost use Rattle.patr_model.specs.Laws.{SubsumptionIsOrder, UnifiersAreSame, LeastValuesExtend, UnifierIsLeastValue, SameAsUnifier, ClosedMarksAreSettled, NoMoreThanAll, OneReply, PlainIsSolvable, CategoriesAreOneAll, CanonicalTexts, TextsAreRead, ReadingIsBack, LeastTextsAreOneAll, WalksAreWhole, Printing, WalksByStack, MapsByPairsAll, BuildsByStack, SortedIsInOrder, ReadsByItemsAll, TextsAreLocal};
 ghost use Rattle.patr_model.specs.Keys.{KeysTell};
 ghost use Rattle.patr_model.specs.Rounds.{RoundsFindChart, PairsAreCountedAll};
 ghost use Rattle.patr_model.specs.EquationStructures.{EquationsAreStructures};
 ghost use Rattle.patr_model.specs.Variants.{VariantSteps, LeavesAreRules};
 ghost use Rattle.patr_model.specs.Chains.{ChainSteps};
 ghost use Rattle.patr_model.specs.Longer.{LongerKeeps};
-ghost use Rattle.patr_model.specs.Openings.{OpeningsAreOne, RunsAreOne, SessionRepliesBegin, TablesAreNumbered};
+ghost use Rattle.patr_model.specs.Openings.{OpeningsAreOne, SessionRepliesBegin, TablesAreNumbered};
 ghost use Rattle.patr_model.specs.Agreeing.{ReadingIgnoresNumbers};
-ghost use Rattle.patr_model.specs.Spelling.{ClausesEnd, PathsAreSpelled, EquationsAreSpelled, RulesAreSpelled, GrammarsAreSpelled, EntriesAreSpelled};
-ghost use Rattle.patr_model.specs.Renaming.{RepliesIgnoreNumbers, RunsIgnoreNumbers, VariantsIgnoreNumbers, EachNumberingServes};
+ghost use Rattle.patr_model.specs.Renaming.{RepliesIgnoreNumbers, RunsIgnoreNumbers, VariantsIgnoreNumbers};
 
 pub use builds::{
-    builds_are_bare, builds_ignore_numbers, builds_ignore_words, builds_state_categories,
-    following_is_category, solved_go_by_category,
+    builds_ignore_numbers, builds_ignore_words, builds_state_categories, following_is_category,
+    solved_go_by_category,
 };
 pub use field::{LineKind, Marker};
 pub use front::{Front, Kind};
@@ -47,16 +45,6 @@ pub fn unifier_is_least_value()
     ensures { UnifierIsLeastValue }
 {}
 
-/// Every analysis is an edge of the closed chart.
-pub fn prediction_drops_none()
-    ensures { PredictionDropsNone }
-{}
-
-/// The samples of maps.
-pub fn samples_of_maps()
-    ensures { SamplesOfMaps }
-{}
-
 /// What is the same as a unifier is one.
 pub fn same_as_unifier()
     ensures { SameAsUnifier }
@@ -65,11 +53,6 @@ pub fn same_as_unifier()
 /// Marks that are closed and that every structure follows stand for a unifier.
 pub fn closed_marks_are_settled()
     ensures { ClosedMarksAreSettled }
-{}
-
-/// The closed chart has the edges of the licensed lists.
-pub fn chart_is_licensed()
-    ensures { ChartIsLicensed }
 {}
 
 /// A list without repeats is no longer than one that has its members.
@@ -90,11 +73,6 @@ pub fn plain_is_solvable()
 /// A category is the same in each least value.
 pub fn categories_are_one()
     ensures { CategoriesAreOneAll }
-{}
-
-/// Without written equations, categories alone say what the closed chart is.
-pub fn plain_chart_is_solved()
-    ensures { PlainChartIsSolved }
 {}
 
 /// Two values have one canonical text exactly where they are the same.
@@ -150,11 +128,6 @@ pub fn sorted_is_in_order()
 /// A canonical text is read event by event.
 pub fn reads_by_items()
     ensures { ReadsByItemsAll }
-{}
-
-/// A table of different texts gives symbols with different texts.
-pub fn tables_give()
-    ensures { TablesGive }
 {}
 
 /// A canonical text depends on the texts of the symbols that are there, and on the order.
@@ -217,19 +190,9 @@ pub fn variants_ignore_numbers()
     ensures { VariantsIgnoreNumbers }
 {}
 
-/// What a session stands on is there for each numbering.
-pub fn each_numbering_serves()
-    ensures { EachNumberingServes }
-{}
-
 /// At each stage the words and the files of a run come to one session, or one refusal.
 pub fn openings_are_one()
     ensures { OpeningsAreOne }
-{}
-
-/// At each stage a run has one text and one ending, whichever numbering it is read under.
-pub fn runs_are_one()
-    ensures { RunsAreOne }
 {}
 
 /// The replies to the first lines of a session begin each of its texts.
@@ -245,34 +208,4 @@ pub fn tables_are_numbered()
 /// Tokens stand for one grammar, by their texts or by the numbers of these.
 pub fn reading_ignores_numbers()
     ensures { ReadingIgnoresNumbers }
-{}
-
-/// A list of clauses that is read leaves no tokens.
-pub fn clauses_end()
-    ensures { ClausesEnd }
-{}
-
-/// A path is read exactly as it is spelled.
-pub fn paths_are_spelled()
-    ensures { PathsAreSpelled }
-{}
-
-/// An equation is read exactly as it is spelled.
-pub fn equations_are_spelled()
-    ensures { EquationsAreSpelled }
-{}
-
-/// Rules of symbols alone are read exactly as they are spelled.
-pub fn rules_are_spelled()
-    ensures { RulesAreSpelled }
-{}
-
-/// Bytes stand for a grammar of symbols alone exactly where their tokens spell it.
-pub fn grammars_are_spelled()
-    ensures { GrammarsAreSpelled }
-{}
-
-/// Lines of words and their categories are read as these entries.
-pub fn entries_are_spelled()
-    ensures { EntriesAreSpelled }
 {}

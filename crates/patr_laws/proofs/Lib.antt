@@ -1,0 +1,10 @@
+pub mod FewSymbols
+pub mod ClausesEnd
+pub mod Spelled
+pub mod SpelledParts
+pub mod SpelledRules
+pub mod SpelledGrammars
+pub mod SpelledEntries
+pub mod BareBuilds
+pub mod Licensed
+pub mod Table

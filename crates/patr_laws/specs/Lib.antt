@@ -1,0 +1,4 @@
+pub mod Spelling
+pub mod Charts
+pub mod Tables
+pub mod Bare

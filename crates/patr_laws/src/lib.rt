@@ -1,0 +1,52 @@
+//! Laws of the definitions that serve no contract: what they mean to a reader.
+#![tactic(auto)]
+
+ghost use Rattle.patr_laws.specs.Bare.{BuildsAreBare};
+ghost use Rattle.patr_laws.specs.Charts.{ChartIsLicensed};
+ghost use Rattle.patr_laws.specs.Spelling.{ClausesEnd, PathsAreSpelled, EquationsAreSpelled, RulesAreSpelled, GrammarsAreSpelled, EntriesAreSpelled};
+ghost use Rattle.patr_laws.specs.Tables.{TablesGive};
+
+/// The closed chart has the edges of the licensed lists.
+pub fn chart_is_licensed()
+    ensures { ChartIsLicensed }
+{}
+
+/// A table of different texts gives symbols with different texts.
+pub fn tables_give()
+    ensures { TablesGive }
+{}
+
+/// Without equations, categories say all that the variants of a build do.
+pub fn builds_are_bare()
+    ensures { BuildsAreBare }
+{}
+
+/// A list of clauses that is read leaves no tokens.
+pub fn clauses_end()
+    ensures { ClausesEnd }
+{}
+
+/// A path is read exactly as it is spelled.
+pub fn paths_are_spelled()
+    ensures { PathsAreSpelled }
+{}
+
+/// An equation is read exactly as it is spelled.
+pub fn equations_are_spelled()
+    ensures { EquationsAreSpelled }
+{}
+
+/// Rules of symbols alone are read exactly as they are spelled.
+pub fn rules_are_spelled()
+    ensures { RulesAreSpelled }
+{}
+
+/// Bytes stand for a grammar of symbols alone exactly where their tokens spell it.
+pub fn grammars_are_spelled()
+    ensures { GrammarsAreSpelled }
+{}
+
+/// Lines of words and their categories are read as these entries.
+pub fn entries_are_spelled()
+    ensures { EntriesAreSpelled }
+{}

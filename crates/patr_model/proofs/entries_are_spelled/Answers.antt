@@ -1,5 +1,0 @@
-use Rattle.patr_model.proofs.entries_are_spelled.Goals as goal
-use Rattle.patr_model.proofs.SpelledEntries.{entries_are_spelled}
-
-pub returns : goal.returns
-returns c = entries_are_spelled

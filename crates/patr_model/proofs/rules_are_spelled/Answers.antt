@@ -1,5 +1,0 @@
-use Rattle.patr_model.proofs.rules_are_spelled.Goals as goal
-use Rattle.patr_model.proofs.SpelledRules.{rules_are_spelled}
-
-pub returns : goal.returns
-returns c = rules_are_spelled
