@@ -3,19 +3,33 @@
 /// What a token is.
 #[derive(Clone, Copy, Debug, PartialEq, Eq)]
 pub enum Kind {
+    /// `<`.
     Less,
+    /// `>`.
     Greater,
+    /// `=`.
     Equal,
+    /// `{`.
     OpenBrace,
+    /// `}`.
     CloseBrace,
+    /// `(`.
     OpenParen,
+    /// `)`.
     CloseParen,
+    /// `[`.
     OpenBracket,
+    /// `]`.
     CloseBracket,
+    /// `/`.
     Slash,
+    /// `:`.
     Colon,
+    /// `.`, where it belongs to no Word.
     Dot,
+    /// `->`.
     Arrow,
+    /// A longest run of plain characters.
     Word,
 }
 
