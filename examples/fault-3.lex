@@ -1,0 +1,3 @@
+\w dog
+\c N
+\f <agr num = sg
