@@ -131,11 +131,14 @@ fn repeated(alloc: Global, text: &str, count: usize, last: &str) -> Result<Strin
 fn long_sentences_are_parsed(rt: HostRuntime) -> Result<(), Fail> {
     let alloc = rt.alloc();
     let words = &["g", "l", "--limit", "40000"];
-    let input = repeated(alloc, "w ", 255, "w\n:count on\nw\n")?;
+    let input = format!(in alloc;
+        ":count on\n{}",
+        repeated(alloc, "w ", 255, "w\nw\n")?.as_str()
+    )?;
     let mut tree = repeated(alloc, "(S (W w) ", 255, "(S (W w))")?;
     tree.push_str(repeated(alloc, ")", 255, "")?.as_str())?;
     let written = format!(in alloc;
-        "analyses 1\n1 {}\ncount on\nanalyses 1\n1 (S (W w))\nedges 7\n",
+        "count on\nanalyses 1\n1 {}\nedges 33922\nanalyses 1\n1 (S (W w))\nedges 7\n",
         tree.as_str()
     )?;
     let setting = well(LIST, b"\\w w\n\\c W", input.as_bytes());

@@ -60,7 +60,21 @@ fn filled(alloc: Global, text: &[u8], byte: u8, count: usize) -> Result<Vec<u8>,
     Ok(bytes)
 }
 
-/// Whether the file is the grammar, how many LFs it has, the status, and what is written.
+/// So many bytes of lines of 4,095 spaces and an LF, the last line as far as it goes.
+fn blank_lines(alloc: Global, count: usize) -> Result<Vec<u8>, Fail> {
+    let mut line = filled(alloc, b"", b' ', 4095)?;
+    line.push(b'\n')?;
+    let mut bytes = Vec::new(alloc);
+    for _ in 0..count / 4096 {
+        bytes.extend_from_slice(&line)?;
+    }
+    for byte in line.iter().take(count % 4096) {
+        bytes.push(*byte)?;
+    }
+    Ok(bytes)
+}
+
+/// Whether the file is the grammar, how many bytes it has, the status, and what is written.
 const LONG_FILES: &[(bool, usize, u8, &[u8])] = &[
     (true, 4_194_304, 2, b"error: grammar: no rules\n"),
     (
@@ -68,12 +82,6 @@ const LONG_FILES: &[(bool, usize, u8, &[u8])] = &[
         4_194_305,
         2,
         b"error: grammar: more than 4194304 bytes\n",
-    ),
-    (
-        false,
-        16_777_216,
-        0,
-        b"error: unknown word at 1: a\nerror: unknown word at 1: a\n",
     ),
     (
         false,
@@ -87,7 +95,7 @@ const LONG_FILES: &[(bool, usize, u8, &[u8])] = &[
 fn long_files_are_refused(rt: HostRuntime) -> Result<(), Fail> {
     let alloc = rt.alloc();
     for (is_grammar, count, code, written) in LONG_FILES {
-        let long = filled(alloc, b"", b'\n', *count)?;
+        let long = blank_lines(alloc, *count)?;
         let setting = if *is_grammar {
             well(&long, LEXICON, INPUT)
         } else {
@@ -101,23 +109,13 @@ fn long_files_are_refused(rt: HostRuntime) -> Result<(), Fail> {
     Ok(())
 }
 
-/// How many LFs an input has, the status, and what is written.
-const INPUTS: [(usize, u8, &[u8]); 2] = [
-    (16_777_216, 0, b""),
-    (16_777_217, 7, b"error: input longer than 16777216 bytes\n"),
-];
-
 #[test]
 fn long_inputs_are_refused(rt: HostRuntime) -> Result<(), Fail> {
     let alloc = rt.alloc();
-    for (count, code, written) in INPUTS {
-        let input = filled(alloc, b"", b'\n', count)?;
-        let setting = well(GRAMMAR, LEXICON, &input);
-        assert!(rt;
-            gives(&rt, alloc, FILES, setting, code, written)?,
-            "{count}"
-        );
-    }
+    let input = blank_lines(alloc, 16_777_217)?;
+    let setting = well(GRAMMAR, LEXICON, &input);
+    let written = b"error: input longer than 16777216 bytes\n";
+    assert!(rt; gives(&rt, alloc, FILES, setting, 7, written)?);
     Ok(())
 }
 
