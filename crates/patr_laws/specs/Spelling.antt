@@ -1,6 +1,6 @@
 -- How what is read is spelled, by its parts: no lookahead, no count of steps, no order of tests.
 --     IsPath, IsTerm, IsEquation          paths and equations
---     IsRuleSpelled, AreRulesSpelled      rules, with the forms that are built
+--     IsRuleSpelled, AreRulesSpelled      rules of symbols and equations
 --     SpellsGrammar                       a whole text of such rules
 --     AreFeaturesSpelled                  the features of an entry
 --     entry_lines                         entries of a word and a category
