@@ -9,7 +9,7 @@ use Rattle.patr_model.specs.Parsing.{Refusal, Parse, Got, Stops, ◌>>=◌, Read
 use Rattle.patr_model.specs.Stages.{Stage}
 use Rattle.patr_model.specs.Productions.{Item, SymbolText, Clause, with_name, Left, Head, AnyAttribute, InOrOut, room, word_list, head, path, term, equation, alternative, choices, braced, begins_ruleitem, rule_equation, ruleitems, name_tokens, rule_name, begins_inner, begins_outer, plain, many_right, star_right, row_right, alts, symbol_item, item, right_side, rule, begins_feature, single_feature, feature, fresh_name, template, lexical_rule, more_paths, paths, start_setting, restrictor_setting, order_setting, setting, parameter, clause, clauses}
 use Rattle.patr_laws.specs.Spelling.{ClausesEnd}
-use Rattle.patr_laws.proofs.FewSymbols.{bind_got}
+use Rattle.patr_laws.proofs.Readings.{bind_got}
 
 -- ---- how much is left
 

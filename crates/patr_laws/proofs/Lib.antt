@@ -1,10 +1,12 @@
-pub mod FewSymbols
+pub mod Readings
 pub mod ClausesEnd
 pub mod Spelled
 pub mod SpelledParts
+pub mod SpelledLists
 pub mod SpelledRules
 pub mod SpelledGrammars
 pub mod SpelledEntries
 pub mod BareBuilds
 pub mod Licensed
 pub mod Table
+pub mod PlainReplies

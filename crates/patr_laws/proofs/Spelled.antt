@@ -9,7 +9,7 @@ use Rattle.patr_model.specs.Lexemes.{Words, by_text, is_kind, begins}
 use Rattle.patr_model.specs.Parsing.{Expected, NotAConstituent, PathTooLong, Parse, Got, Stops, ◌>>=◌, Reads, one}
 use Rattle.patr_model.specs.Productions.{PathText, TermText, AtomText, OfPath, EquationText, Head, first_word, fits_head, headed, room, word_list, attributes, head, path, term, equation}
 use Rattle.patr_laws.specs.Spelling.{IsKind, IsPath, IsTerm, IsEquation, Takes, IsFound, IsOnly, PathsAreSpelled, EquationsAreSpelled}
-use Rattle.patr_laws.proofs.FewSymbols.{bind_got}
+use Rattle.patr_laws.proofs.Readings.{bind_got}
 
 -- ---- one step
 
@@ -206,7 +206,7 @@ module _ {T W : Type 0} (words : Words T W) where
   abbrev behind_left : Head W → PathText W → Reads T W (EquationText W)
   behind_left h l ts = one (is_kind words Equal) what.Equal ts >>= λ _ ts. behind_equal h l ts
 
-  equation_only : (h : Head W) (expected : What) → IsOnly (IsEquation words h) (equation words h expected)
+  pub equation_only : (h : Head W) (expected : What) → IsOnly (IsEquation words h) (equation words h expected)
   unfolding equation
   equation_only h expected front x rest p =
       let split : front ++ rest ≡ p.left ++ (p.equal ∷ (p.right ++ rest)) = ap (λ u. u ++ rest) p.parts ∙ append_assoc p.left (p.equal ∷ p.right) rest in
@@ -215,7 +215,7 @@ module _ {T W : Type 0} (words : Words T W) where
       ∙ (ap (λ (q : Parse T W (List T) T). q >>= λ _ ts. behind_equal h x.left ts) (one_again (is_kind words Equal) what.Equal p.equal (p.right ++ rest) p.equal_is)
       ∙ ap (λ (q : Parse T W (List T) (TermText W)). q >>= λ r ts. Got (record { left = x.left; right = r }) ts) (term_only h p.right x.right rest p.right_is)))
 
-  equation_found : (h : Head W) (expected : What) → IsFound (IsEquation words h) (equation words h expected)
+  pub equation_found : (h : Head W) (expected : What) → IsFound (IsEquation words h) (equation words h expected)
   unfolding equation
   equation_found h expected ts x rest e =
       let a = bind_got (path words h expected ts) (λ l ts. behind_left h l ts) x rest e in

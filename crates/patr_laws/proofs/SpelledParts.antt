@@ -1,19 +1,19 @@
--- The right sides and the names of rules of symbols alone are read exactly as they are spelled.
+-- The right sides and the names of rules are read exactly as they are spelled.
 use Rattle.std.proofs.Common.{◌≡◌, inl, inr, ℕ, zero, suc, ◌+◌, ◌-◌, ◌≤◌, Bool, true, false, cond, not, ◌&&◌, ◌||◌, nat_eq, eqb-true, true≢false, List, [], ◌∷◌, ◌++◌, length, map, refl, sym, ap, ◌∙◌, subst, arith, append_assoc, length-append}
 use Rattle.std.specs.List.{AllByRecursion}
 use Rattle.std.proofs.lemmas.Bool.{and_parts, ne_eqb}
 use Rattle.patr_model.specs.declared.front.Kind.{Kind}
-use Rattle.patr_model.specs.declared.front.Kind.TheVariants.{Less, OpenBrace, CloseBrace, OpenParen, Word}
+use Rattle.patr_model.specs.declared.front.Kind.TheVariants.{OpenBrace, CloseBrace, OpenParen, Word}
 use Rattle.patr_model.specs.declared.notation.Key.{Key}
 use Rattle.patr_model.specs.declared.notation.Key.TheVariants as key
 use Rattle.patr_model.specs.declared.notation.What.TheVariants as what
-use Rattle.patr_model.specs.Grammar.{Row, Done}
+use Rattle.patr_model.specs.Grammar.{Row}
 use Rattle.patr_model.specs.Lexemes.{Words, kind_number, key_number, is_kind, is_key, is_clause_word, is_symbol, begins}
 use Rattle.patr_model.specs.Parsing.{Expected, TooManySymbols, LaterForm, Parse, Got, Stops, ◌>>=◌, Reads, one, maybe, many}
-use Rattle.patr_model.specs.Stages.{plain_rules}
-use Rattle.patr_model.specs.Productions.{Item, Single, row, SymbolText, EquationText, Left, Head, equation, braced, begins_ruleitem, rule_equation, ruleitems, name_tokens, rule_name, symbol_of, opens_equations, begins_outer, many_right, star_right, symbol_item, item, right_side}
+use Rattle.patr_model.specs.Stages.{with_equations}
+use Rattle.patr_model.specs.Productions.{Item, Single, row, SymbolText, Left, name_tokens, rule_name, symbol_of, opens_equations, begins_outer, many_right, star_right, symbol_item, item, right_side}
 use Rattle.patr_laws.specs.Spelling.{IsMaybe, IsKind, IsSymbol, IsNoBrace, IsRuleName, Takes}
-use Rattle.patr_laws.proofs.FewSymbols.{bind_got}
+use Rattle.patr_laws.proofs.Readings.{bind_got}
 use Rattle.patr_laws.proofs.Spelled.{got_value, got_rest, one_got, one_again}
 
 -- ---- lists
@@ -52,7 +52,7 @@ pub maybe_first : {T : Type 0} (P : T → Type 0) (test : T → Bool) (front ts 
 maybe_first P test front ts (inl e) k h = subst (λ u. First P (u ++ ts)) (sym e) h
 maybe_first P test front ts (inr m) k h = subst (λ u. First P (u ++ ts)) (sym m.1) (k m.0 m.2)
 
-many_none : {T W X : Type 0} (n : ℕ) (starts : List T → Bool) (f : Reads T W X) (ts : List T) → starts ts ≡ false → many n starts f ts ≡ Got [] ts
+pub many_none : {T W X : Type 0} (n : ℕ) (starts : List T → Bool) (f : Reads T W X) (ts : List T) → starts ts ≡ false → many n starts f ts ≡ Got [] ts
 unfolding many
 many_none zero starts f ts h = refl
 many_none (suc n) starts f ts h = ap (λ b. cond b (f ts >>= λ x rest. many n starts f rest >>= λ xs rest'. Got (x ∷ xs) rest') (Got [] ts)) h
@@ -202,7 +202,7 @@ module _ {T W : Type 0} (words : Words T W) where
     pub value : r ≡ row (map (λ t. Single (symbol_of words t)) front)
     pub few : length front ≤ 32
 
-  pub right_found : (ts : List T) (r : Row (SymbolText W)) (rest : List T) → right_side words plain_rules ts ≡ Got r rest → AreSymbols ts r rest
+  pub right_found : (ts : List T) (r : Row (SymbolText W)) (rest : List T) → right_side words with_equations ts ≡ Got r rest → AreSymbols ts r rest
   right_found ts r rest e =
       let from : Left T = record { symbols = 32; tokens = ts } in
       let a = bind_got (star_right words (begins_outer words) (item words false 16) from) (λ xs s. Got (row xs) s.tokens) r rest e in
@@ -215,57 +215,10 @@ module _ {T W : Type 0} (words : Words T W) where
         few = m.few;
       }
 
-  pub right_again : (ts rest : List T) → AllByRecursion (IsSymbol words) ts → length ts ≤ 32 → begins_outer words rest ≡ false → right_side words plain_rules (ts ++ rest) ≡ Got (row (map (λ t. Single (symbol_of words t)) ts)) rest
+  pub right_again : (ts rest : List T) → AllByRecursion (IsSymbol words) ts → length ts ≤ 32 → begins_outer words rest ≡ false → right_side words with_equations (ts ++ rest) ≡ Got (row (map (λ t. Single (symbol_of words t)) ts)) rest
   right_again ts rest a few stops =
       ap (λ (p : Parse T W (Left T) (List (Item (SymbolText W)))). p >>= λ xs s. Got (row xs) s.tokens)
       (many_symbols_again 16 ts 32 (32 - length ts) (length (ts ++ rest)) rest a (omega (arith, few)) (omega (arith, length-append ts rest)) stops)
-
-  -- ---- equations, which are a later form
-
-  -- what begins as an item of equations stops
-  equation_stops : (b : Bool) (h : Head W) (ts : List T) → b ≡ true → ◌≡◌ {A = Parse T W (List T) (Item (EquationText W))} (cond (b && true) (Stops LaterForm ts) (equation words h what.Equation ts) >>= λ x ts. Got (Single x) ts) (Stops LaterForm ts)
-  equation_stops b h ts e = ap (λ c. cond (c && true) (Stops LaterForm ts) (equation words h what.Equation ts) >>= λ x ts. Got (Single x) ts) e
-
-  either_stops : (l b : Bool) (p : Parse T W (List T) (Item (EquationText W))) (ts : List T) → (l || b) ≡ true → (l ≡ true → p ≡ Stops LaterForm ts) → cond b (Stops LaterForm ts) p ≡ Stops LaterForm ts
-  either_stops l true p ts e k = refl
-  either_stops true false p ts e k = k refl
-  either_stops false false p ts e k = absurd (true≢false (sym e))
-
-  item_stops : (k : ℕ) (h : Head W) (ts : List T) → begins_ruleitem words ts ≡ true → braced words k false (begins_ruleitem words) (rule_equation words plain_rules h) ts ≡ Stops LaterForm ts
-  unfolding braced
-  item_stops zero h ts e = either_stops (begins (is_kind words Less) ts) (begins (is_kind words OpenBrace) ts) _ ts e (equation_stops (begins (is_kind words Less) ts) h ts)
-  item_stops (suc k) h ts e = either_stops (begins (is_kind words Less) ts) (begins (is_kind words OpenBrace) ts) _ ts e (equation_stops (begins (is_kind words Less) ts) h ts)
-
-  abbrev NoItems : List T → List (Item (EquationText W)) → List T → Type 0
-  NoItems ts xs rest = (xs ≡ []) × (ts ≡ rest)
-
-  many_items_found : (n k : ℕ) (h : Head W) (ts : List T) (xs : List (Item (EquationText W))) (rest : List T)
-      → many n (begins_ruleitem words) (braced words k false (begins_ruleitem words) (rule_equation words plain_rules h)) ts ≡ Got xs rest → NoItems ts xs rest
-  unfolding many
-  many_items_found zero k h ts xs rest e = (sym (got_value [] xs ts rest e), got_rest [] xs ts rest e)
-  many_items_found (suc n) k h ts xs rest e = go (begins_ruleitem words ts) refl e
-    where
-      read : Reads T W (Item (EquationText W))
-      read = braced words k false (begins_ruleitem words) (rule_equation words plain_rules h)
-
-      go : (b : Bool) → begins_ruleitem words ts ≡ b → cond b (read ts >>= λ x rest. many n (begins_ruleitem words) read rest >>= λ xs rest'. Got (x ∷ xs) rest') (Got [] ts) ≡ Got xs rest → NoItems ts xs rest
-      go false q f = (sym (got_value [] xs ts rest f), got_rest [] xs ts rest f)
-      go true q f =
-          let a = bind_got (read ts) (λ x rest. many n (begins_ruleitem words) read rest >>= λ xs rest'. Got (x ∷ xs) rest') xs rest f in
-          let c : Stops LaterForm ts ≡ Got a.0 a.1 = sym (item_stops k h ts q) ∙ a.2 in
-          absurd cc
-
-  pub items_found : (h : Head W) (ts : List T) (r : Row (EquationText W)) (rest : List T) → ruleitems words plain_rules h ts ≡ Got r rest → (r ≡ Done) × (ts ≡ rest)
-  items_found h ts r rest e =
-      let read = braced words 16 false (begins_ruleitem words) (rule_equation words plain_rules h) in
-      let a = bind_got (many (length ts) (begins_ruleitem words) read ts) (λ xs ts. Got (row xs) ts) r rest e in
-      let m = many_items_found (length ts) 16 h ts a.0 a.1 a.2 in
-      (sym (got_value (row a.0) r a.1 rest a.3) ∙ ap row m.0, m.1 ∙ got_rest (row a.0) r a.1 rest a.3)
-
-  pub items_again : (h : Head W) (ts : List T) → begins_ruleitem words ts ≡ false → ruleitems words plain_rules h ts ≡ Got Done ts
-  items_again h ts stops =
-      ap (λ (p : Parse T W (List T) (List (Item (EquationText W)))). p >>= λ xs ts. Got (row xs) ts)
-      (many_none (length ts) (begins_ruleitem words) (braced words 16 false (begins_ruleitem words) (rule_equation words plain_rules h)) ts stops)
 
   -- ---- names
 

@@ -12,5 +12,6 @@ pub record IsLicensedSet (j : Judgement) (g : Rules) (ws : List ℕ) (t : Deriva
 
 -- the edges of the closed chart, plain or by solutions, are those that stand in licensed lists
 pub record ChartIsLicensed : Type 0 where
-  pub of_solved : (g : Rules) (cat : ℕ) (ws : List ℕ) (t : Derivation) → IsLicensedSet (solved g cat) g ws t
+  pub of_solved : (g : Rules) (cat : ℕ) (ws : List ℕ) (t : Derivation)
+      → IsLicensedSet (solved g cat) g ws t
   pub of_plain : (g : Rules) (ws : List ℕ) (t : Derivation) → IsLicensedSet (plain g) g ws t

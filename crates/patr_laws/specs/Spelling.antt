@@ -1,24 +1,26 @@
 -- How what is read is spelled, by its parts: no lookahead, no count of steps, no order of tests.
 --     IsPath, IsTerm, IsEquation          paths and equations
---     IsRuleSpelled, AreRulesSpelled      rules of symbols alone
+--     IsRuleSpelled, AreRulesSpelled      rules of symbols and equations
 --     SpellsGrammar                       a whole text of such rules
+--     AreFeaturesSpelled                  the features of an entry
 --     entry_lines                         entries of a word and a category
 -- The laws: what is read is spelled so, and what is spelled so is read.
-use Rattle.std.specs.Prelude.{◌≡◌, ◌⊎◌, ℕ, suc, ◌≤◌, List, [], ◌∷◌, ◌++◌, map, length, Bool, true, false, None, Ok, IsUtf8, codes}
+use Rattle.std.specs.Prelude.{◌≡◌, ◌⊎◌, ◌↔◌, ℕ, suc, ◌≤◌, List, [], ◌∷◌, ◌++◌, map, length, Bool, true, false, None, Ok, IsUtf8, codes}
 use Rattle.std.specs.List.{AllByRecursion, flat_map}
 use Rattle.patr_model.specs.declared.front.Kind.{Kind}
 use Rattle.patr_model.specs.declared.front.Kind.TheVariants.{Less, Greater, Equal, OpenBrace, CloseBrace, Colon, Dot, Arrow, Word}
 use Rattle.patr_model.specs.declared.notation.Key.TheVariants as key
 use Rattle.patr_model.specs.declared.notation.What.{What}
-use Rattle.patr_model.specs.Grammar.{Done}
+use Rattle.patr_model.specs.Grammar.{Row, Done}
 use Rattle.patr_model.specs.Tokens.{Token, tokens_of, IsPlainWord}
 use Rattle.patr_model.specs.Lexemes.{Words, by_text, is_kind, is_key, is_symbol}
 use Rattle.patr_model.specs.Parsing as parsing
 use Rattle.patr_model.specs.Parsing.{Got}
-use Rattle.patr_model.specs.Stages.{Stage, plain_rules}
-use Rattle.patr_model.specs.Productions.{Single, row, PathText, TermText, AtomText, OfPath, EquationText, RuleText, Clause, RuleClause, Head, fits_head, headed, room, path, equation, symbol_of, clauses, Grammar}
+use Rattle.patr_model.specs.Stages.{Stage, with_equations}
+use Rattle.patr_model.specs.Productions.{Single, row, PathText, TermText, AtomText, OfPath, EquationText, FeatureText, Equates, RuleText, Clause, RuleClause, Head, AmongSymbols, AnyAttribute, fits_head, headed, room, path, equation, symbol_of, clauses, Grammar}
 use Rattle.patr_model.specs.GrammarText.{ReadsGrammar}
-use Rattle.patr_model.specs.LexiconText.{EntryText, Reads, reading}
+use Rattle.patr_model.specs.LexiconLines.{Piece}
+use Rattle.patr_model.specs.LexiconText.{EntryText, Reads, piece_tokens, features_of, reading}
 
 -- a token that passes the test, or none
 abbrev pub IsMaybe : {T : Type 0} → (T → Bool) → List T → Type 0
@@ -82,7 +84,18 @@ module _ {T W : Type 0} (words : Words T W) where
   abbrev pub IsRuleName : List T → List W → Type 0
   IsRuleName ts name = ((ts ≡ []) × (name ≡ [])) ⊎ IsBracedName ts name
 
-  -- The tokens are the word `Rule`, maybe a name in braces, a symbol, an arrow, at most 32 symbols, maybe a colon and maybe a dot, and spell this rule.
+  -- the tokens are these equations, one behind another
+  abbrev pub AreEquations : Head W → List T → List (EquationText W) → Type 0
+  AreEquations h ts [] = ts ≡ []
+  AreEquations h ts (e ∷ es) =
+      (front rest : List T) × (ts ≡ front ++ rest) × IsEquation h front e × AreEquations h rest es
+
+  -- the first word of each path of the rule is one of its symbols: any other is no constituent
+  abbrev pub symbols_among : T → List T → Head W
+  symbols_among mother right = AmongSymbols (map words.word (mother ∷ right))
+
+  -- The tokens are the word `Rule`, maybe a name in braces, a symbol, an arrow, at most 32 symbols,
+  -- maybe a colon, equations between constituents, and maybe a dot, and spell this rule.
   pub record IsRuleSpelled (ts : List T) (r : RuleText W) : Type 0 where
     pub first : T
     pub name : List T
@@ -90,8 +103,10 @@ module _ {T W : Type 0} (words : Words T W) where
     pub arrow : T
     pub right : List T
     pub colon : List T
+    pub body : List T
     pub dot : List T
-    pub parts : ts ≡ first ∷ (name ++ mother ∷ arrow ∷ (right ++ (colon ++ dot)))
+    pub equations : List (EquationText W)
+    pub parts : ts ≡ first ∷ (name ++ mother ∷ arrow ∷ (right ++ (colon ++ (body ++ dot))))
     pub first_is : is_key words key.Rule first ≡ true
     pub name_is : IsRuleName name r.name
     pub mother_is : IsSymbol mother
@@ -99,60 +114,97 @@ module _ {T W : Type 0} (words : Words T W) where
     pub right_are : AllByRecursion IsSymbol right
     pub few : length right ≤ 32
     pub colon_is : IsMaybe (is_kind words Colon) colon
+    pub body_is : AreEquations (symbols_among mother right) body equations
     pub dot_is : IsMaybe (is_kind words Dot) dot
-    pub value : r ≡ record { line = (words.place first).line; name = r.name; mother = symbol_of words mother; right = row (map (λ t. Single (symbol_of words t)) right); equations = Done }
+    pub value : r ≡ record {
+      line = (words.place first).line;
+      name = r.name;
+      mother = symbol_of words mother;
+      right = row (map (λ t. Single (symbol_of words t)) right);
+      equations = row (map (λ e. Single e) equations);
+    }
 
   -- the tokens are these rules, one behind another
   abbrev pub AreRulesSpelled : List T → List (RuleText W) → Type 0
   AreRulesSpelled ts [] = ts ≡ []
-  AreRulesSpelled ts (r ∷ rs) = (front rest : List T) × (ts ≡ front ++ rest) × IsRuleSpelled front r × AreRulesSpelled rest rs
+  AreRulesSpelled ts (r ∷ rs) = (front rest : List T) × (ts ≡ front ++ rest)
+      × IsRuleSpelled front r × AreRulesSpelled rest rs
 
-  -- The tokens are one rule at least, and spell the grammar that has these rules and starts at the first one's mother; its restrictor is the path of `cat`.
+  -- The tokens are one rule at least, and spell the grammar that has these rules and starts at the
+  -- first one's mother; its restrictor is the path of `cat`.
   abbrev pub IsGrammarSpelled : W → List T → Grammar W → Type 0
-  IsGrammarSpelled cat ts g = (r : RuleText W) × (rs : List (RuleText W)) × AreRulesSpelled ts (r ∷ rs)
-      × (g ≡ record { rules = r ∷ rs; templates = []; lexical_rules = []; start = r.mother.category; restrictor = (cat ∷ []) ∷ []; order = [] })
+  IsGrammarSpelled cat ts g =
+      (r : RuleText W) × (rs : List (RuleText W)) × AreRulesSpelled ts (r ∷ rs) × (g ≡ record {
+        rules = r ∷ rs;
+        templates = [];
+        lexical_rules = [];
+        start = r.mother.category;
+        restrictor = (cat ∷ []) ∷ [];
+        order = [];
+      })
+
+  -- the tokens are equations between paths of attributes, and spell these features
+  abbrev pub AreFeaturesSpelled : List T → Row (FeatureText W) → Type 0
+  AreFeaturesSpelled ts r = (es : List (EquationText W)) × AreEquations AnyAttribute ts es
+      × (r ≡ row (map (λ e. Single (Equates e)) es))
 
 -- the bytes are UTF-8, and their tokens spell this grammar
 abbrev pub SpellsGrammar : List ℕ → Grammar (List ℕ) → Type 0
-SpellsGrammar bytes g = IsUtf8 bytes × (ts : List Token) × (tokens_of bytes ≡ Ok ts) × IsGrammarSpelled by_text (codes "cat") ts g
+SpellsGrammar bytes g = IsUtf8 bytes × (ts : List Token) × (tokens_of bytes ≡ Ok ts)
+    × IsGrammarSpelled by_text (codes "cat") ts g
 
 -- ---- laws
 
 -- what was taken from the front spells what was read
-pub record Takes {T X : Type 0} (P : List T → X → Type 0) (ts : List T) (x : X) (rest : List T) : Type 0 where
+pub record Takes {T X : Type 0} (P : List T → X → Type 0) (ts : List T) (x : X) (rest : List T)
+    : Type 0 where
   pub front : List T
   pub parts : ts ≡ front ++ rest
   pub spelled : P front x
 
 -- what is read is spelled so
 abbrev pub IsFound : {T W X : Type 0} → (List T → X → Type 0) → parsing.Reads T W X → Type 0
-IsFound {T = T} {X = X} P f = (ts : List T) (x : X) (rest : List T) → f ts ≡ Got x rest → Takes P ts x rest
+IsFound {T = T} {X = X} P f = (ts : List T) (x : X) (rest : List T)
+    → f ts ≡ Got x rest → Takes P ts x rest
 
 -- what is spelled so is read, whatever follows
 abbrev pub IsOnly : {T W X : Type 0} → (List T → X → Type 0) → parsing.Reads T W X → Type 0
-IsOnly {T = T} {X = X} P f = (front : List T) (x : X) (rest : List T) → P front x → f (front ++ rest) ≡ Got x rest
+IsOnly {T = T} {X = X} P f = (front : List T) (x : X) (rest : List T)
+    → P front x → f (front ++ rest) ≡ Got x rest
 
 -- a list of clauses that is read leaves no tokens, at each stage
 abbrev pub ClausesEnd : Type 0
-ClausesEnd = (s : Stage) (names : List (List ℕ)) (ts rest : List Token) (cs : List (Clause (List ℕ))) → clauses by_text s (length ts) names ts ≡ Got cs rest → rest ≡ []
+ClausesEnd = (s : Stage) (names : List (List ℕ)) (ts rest : List Token) (cs : List (Clause (List ℕ)))
+    → clauses by_text s (length ts) names ts ≡ Got cs rest → rest ≡ []
 
 -- paths are read exactly as they are spelled
 abbrev pub PathsAreSpelled : Type 0
-PathsAreSpelled = (h : Head (List ℕ)) (expected : What) → IsFound (IsPath by_text h) (path by_text h expected) × IsOnly (IsPath by_text h) (path by_text h expected)
+PathsAreSpelled = (h : Head (List ℕ)) (expected : What)
+    → IsFound (IsPath by_text h) (path by_text h expected)
+    × IsOnly (IsPath by_text h) (path by_text h expected)
 
 -- equations are read exactly as they are spelled
 abbrev pub EquationsAreSpelled : Type 0
-EquationsAreSpelled = (h : Head (List ℕ)) (expected : What) → IsFound (IsEquation by_text h) (equation by_text h expected) × IsOnly (IsEquation by_text h) (equation by_text h expected)
+EquationsAreSpelled = (h : Head (List ℕ)) (expected : What)
+    → IsFound (IsEquation by_text h) (equation by_text h expected)
+    × IsOnly (IsEquation by_text h) (equation by_text h expected)
 
--- before equations are built, whole lists of tokens are read as rules exactly where they spell them
+-- with equations, and no later form, tokens are read as rules exactly where they spell them
 abbrev pub RulesAreSpelled : Type 0
 RulesAreSpelled = (ts : List Token) (rs : List (RuleText (List ℕ)))
-    → (clauses by_text plain_rules (length ts) [] ts ≡ Got (map RuleClause rs) [] → AreRulesSpelled by_text ts rs)
-    × (AreRulesSpelled by_text ts rs → clauses by_text plain_rules (length ts) [] ts ≡ Got (map RuleClause rs) [])
+    → (clauses by_text with_equations (length ts) [] ts ≡ Got (map RuleClause rs) [])
+    ↔ AreRulesSpelled by_text ts rs
 
--- before equations are built, bytes stand for a grammar exactly where their tokens spell it
+-- so bytes stand for a grammar exactly where they are a text whose tokens spell it
 abbrev pub GrammarsAreSpelled : Type 0
-GrammarsAreSpelled = (bytes : List ℕ) (g : Grammar (List ℕ)) → (ReadsGrammar plain_rules bytes g → SpellsGrammar bytes g) × (SpellsGrammar bytes g → ReadsGrammar plain_rules bytes g)
+GrammarsAreSpelled = (bytes : List ℕ) (g : Grammar (List ℕ))
+    → ReadsGrammar with_equations bytes g ↔ SpellsGrammar bytes g
+
+-- and pieces of a lexicon's `\f` stand for features exactly where their tokens spell them
+abbrev pub FeaturesAreSpelled : Type 0
+FeaturesAreSpelled = (pieces : List Piece) (r : Row (FeatureText (List ℕ)))
+    → (features_of with_equations pieces ≡ Ok r)
+    ↔ AreFeaturesSpelled by_text (flat_map piece_tokens pieces) r
 
 -- ---- entries of lexicons
 
@@ -174,8 +226,11 @@ entry_lines e = field_line 119 e.word ++ field_line 99 e.category
 -- the entries, the first of which stands at this line, and each behind it two lines below
 abbrev pub entries_from : ℕ → List PlainEntry → List EntryText
 entries_from n [] = []
-entries_from n (e ∷ es) = record { line = n; word = e.word; category = e.category; gloss = None; features = Done } ∷ entries_from (suc (suc n)) es
+entries_from n (e ∷ es) =
+    record { line = n; word = e.word; category = e.category; gloss = None; features = Done }
+    ∷ entries_from (suc (suc n)) es
 
 -- lines of words and their categories are read as these entries, at each stage
 abbrev pub EntriesAreSpelled : Type 0
-EntriesAreSpelled = (s : Stage) (es : List PlainEntry) → reading s (flat_map entry_lines es) ≡ Reads (entries_from 1 es)
+EntriesAreSpelled = (s : Stage) (es : List PlainEntry)
+    → reading s (flat_map entry_lines es) ≡ Reads (entries_from 1 es)

@@ -1,9 +1,10 @@
-//! Laws of the definitions that serve no contract: what they mean to a reader.
+//! What the definitions mean to a reader: how what is read is spelled, what the closed chart is,
+//! and what holds without written equations.
 #![tactic(auto)]
 
-ghost use Rattle.patr_laws.specs.Bare.{BuildsAreBare};
+ghost use Rattle.patr_laws.specs.Bare.{BuildsAreBare, WithoutEquationsNothingChanges};
 ghost use Rattle.patr_laws.specs.Charts.{ChartIsLicensed};
-ghost use Rattle.patr_laws.specs.Spelling.{ClausesEnd, PathsAreSpelled, EquationsAreSpelled, RulesAreSpelled, GrammarsAreSpelled, EntriesAreSpelled};
+ghost use Rattle.patr_laws.specs.Spelling.{ClausesEnd, PathsAreSpelled, EquationsAreSpelled, RulesAreSpelled, GrammarsAreSpelled, FeaturesAreSpelled, EntriesAreSpelled};
 ghost use Rattle.patr_laws.specs.Tables.{TablesGive};
 
 /// The closed chart has the edges of the licensed lists.
@@ -21,6 +22,11 @@ pub fn builds_are_bare()
     ensures { BuildsAreBare }
 {}
 
+/// Without written equations, sentences and sessions have the replies that categories alone give.
+pub fn without_equations_nothing_changes()
+    ensures { WithoutEquationsNothingChanges }
+{}
+
 /// A list of clauses that is read leaves no tokens.
 pub fn clauses_end()
     ensures { ClausesEnd }
@@ -36,14 +42,19 @@ pub fn equations_are_spelled()
     ensures { EquationsAreSpelled }
 {}
 
-/// Rules of symbols alone are read exactly as they are spelled.
+/// Rules are read exactly as they are spelled: equations, colon and dot included.
 pub fn rules_are_spelled()
     ensures { RulesAreSpelled }
 {}
 
-/// Bytes stand for a grammar of symbols alone exactly where their tokens spell it.
+/// Bytes stand for a grammar exactly where their tokens spell it.
 pub fn grammars_are_spelled()
     ensures { GrammarsAreSpelled }
+{}
+
+/// Features are read exactly as they are spelled.
+pub fn features_are_spelled()
+    ensures { FeaturesAreSpelled }
 {}
 
 /// Lines of words and their categories are read as these entries.

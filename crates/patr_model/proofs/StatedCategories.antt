@@ -64,11 +64,11 @@ module _ (xs : List Symbol) where
       go None h fs k = k
       go (Some f) h fs k = (h, k)
 
-within_append : (n : ℕ) (es fs : List Equation) → AreWithin n es → AreWithin n fs → AreWithin n (es ++ fs)
+pub within_append : (n : ℕ) (es fs : List Equation) → AreWithin n es → AreWithin n fs → AreWithin n (es ++ fs)
 within_append n [] fs h k = k
 within_append n (e ∷ es) fs h k = (h.0, within_append n es fs h.1 k)
 
-bare_within : (n cat k : ℕ) (cs : List ℕ) → k + length cs ≤ n → AreWithin n (bare cat k cs)
+pub bare_within : (n cat k : ℕ) (cs : List ℕ) → k + length cs ≤ n → AreWithin n (bare cat k cs)
 bare_within n cat k [] h = tt
 bare_within n cat k (c ∷ cs) h = ((omega (arith, h), tt), bare_within n cat (suc k) cs (omega (arith, h)))
 
@@ -106,7 +106,7 @@ rule_is_built cat r =
     (variants single r.right) (everything (variants single r.right))
 
 -- its equation is among them
-stated_at : (cat n : ℕ) (cs : List ℕ) (more : List Equation) (i j c : ℕ) → n + i ≡ j → slice_get cs i ≡ Some c
+pub stated_at : (cat n : ℕ) (cs : List ℕ) (more : List Equation) (i j c : ℕ) → n + i ≡ j → slice_get cs i ≡ Some c
     → slice_get (bare cat n cs ++ more) i ≡ Some (record { left = record { slot = j; path = cat ∷ [] }; right = AtomOf c })
 stated_at cat n [] more i j c e h = cc
 stated_at cat n (d ∷ cs) more zero j c e h =
@@ -125,7 +125,7 @@ module _ {W : Type 0} (number : W → ℕ) (keys : Keys) where
       term_in (text.OfPath p) = omega arith
   feature_within (Names w p) = tt
 
-  stated_within : (fs : List (ℕ × ℕ)) → AreWithin 1 (stated fs)
+  pub stated_within : (fs : List (ℕ × ℕ)) → AreWithin 1 (stated fs)
   stated_within [] = tt
   stated_within (f ∷ fs) = ((omega arith, tt), stated_within fs)
 
