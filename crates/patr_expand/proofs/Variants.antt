@@ -11,7 +11,7 @@ use Rattle.patr_grammar.specs.declared.grammar.RuleText.{RuleText}
 use Rattle.patr_grammar.specs.declared.grammar.SymbolText.{SymbolText}
 use Rattle.patr_grammar.specs.declared.grammar.Element.{Element}
 use Rattle.patr_grammar.specs.Reading.{element_seen, item_seen, rule_seen, symbol_seen, right_seen, equations_seen, features_seen}
-use Rattle.patr_expand.specs.declared.rule.RuleVariant.{RuleVariant}
+use Rattle.patr_expand.specs.declared.variant.RuleVariant.{RuleVariant}
 use Rattle.patr_expand.specs.declared.equation.Equation.{Equation}
 use Rattle.patr_expand.specs.Seen.{number, cat, symbols_seen, equations_at, lists_at, variants_at, features_fault, rule_symbols, AreNumbered}
 use Rattle.patr_expand.specs.Expanded.{IsOnly, IsExpanded}

@@ -21,7 +21,7 @@ use Rattle.patr_expand.specs.declared.equation.SlotPath.{SlotPath}
 use Rattle.patr_expand.specs.declared.equation.Term.{Term}
 use Rattle.patr_expand.specs.declared.equation.Term.TheVariants.{Atom, Path}
 use Rattle.patr_expand.specs.declared.equation.Equation.{Equation}
-use Rattle.patr_expand.specs.declared.rule.RuleVariant.{RuleVariant}
+use Rattle.patr_expand.specs.declared.variant.RuleVariant.{RuleVariant}
 
 -- a symbol's number
 abbrev pub number : Id → ℕ

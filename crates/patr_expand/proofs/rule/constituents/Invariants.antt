@@ -8,5 +8,6 @@ use Rattle.patr_expand.proofs.rule.constituents.Given as goal
 
 abbrev pub invariant-loop-item : goal.invariant-loop-item
 invariant-loop-item l =
-    symbols_seen l.symbols.items ++ map (λ x. model.symbol_of number x) (map item_seen (drop l.item-index l.rule.right.items))
-    ≡ model.symbol_of number (symbol_seen l.rule.mother) ∷ map (λ x. model.symbol_of number x) (map item_seen l.rule.right.items)
+    (symbols_seen l.symbols.items ++ map (λ x. model.symbol_of number x) (map item_seen (drop l.item-index l.rule.right.items))
+    ≡ model.symbol_of number (symbol_seen l.rule.mother) ∷ map (λ x. model.symbol_of number x) (map item_seen l.rule.right.items))
+    × (length l.symbols.items ≡ l.item-index + 1)

@@ -12,10 +12,19 @@ copy_next-requires-clause-next c =
 
 pub returns-clause-rooted : goal.returns-clause-rooted
 returns-clause-rooted c =
-    let image : IsImage (image_at c.loop-place.images.items) (value_of (shown_of c.args.arena.now) c.args.from) c.in_ok-root.root = search rules in
-    (image_is (shown_of c.args.arena.now).structure c.loop-place.images.items c.loop-place.block c.loop-place.invariant.0 (value_of (shown_of c.args.arena.now) c.args.from) c.in_ok-root.root image).0
+    let image : IsImage (image_at c.loop-place.images.items) (value_of (shown_of c.args.arena.now) c.args.from) c.image_of-root.result = search rules in
+    (image_is (shown_of c.args.arena.now).structure c.loop-place.images.items c.loop-place.block c.loop-place.invariant.0 (value_of (shown_of c.args.arena.now) c.args.from) c.image_of-root.result image).0
 
 pub returns-clause-same : goal.returns-clause-same
 returns-clause-same c =
-    let image : IsImage (image_at c.loop-place.images.items) (value_of (shown_of c.args.arena.now) c.args.from) c.in_ok-root.root = search rules in
-    (image_is (shown_of c.args.arena.now).structure c.loop-place.images.items c.loop-place.block c.loop-place.invariant.0 (value_of (shown_of c.args.arena.now) c.args.from) c.in_ok-root.root image).1
+    let image : IsImage (image_at c.loop-place.images.items) (value_of (shown_of c.args.arena.now) c.args.from) c.image_of-root.result = search rules in
+    (image_is (shown_of c.args.arena.now).structure c.loop-place.images.items c.loop-place.block c.loop-place.invariant.0 (value_of (shown_of c.args.arena.now) c.args.from) c.image_of-root.result image).1
+
+pub copy_next-requires-clause-copied : goal.copy_next-requires-clause-copied
+copy_next-requires-clause-copied c = ?
+
+pub loop-place-preserved : goal.loop-place-preserved
+loop-place-preserved c = ?
+
+pub image_of-requires-clause-copied : goal.image_of-requires-clause-copied
+image_of-requires-clause-copied c = ?

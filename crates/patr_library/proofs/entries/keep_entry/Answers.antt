@@ -8,7 +8,7 @@ use Rattle.patr_library.proofs.KeptEntries.{entry_dealt}
 use Rattle.patr_library.proofs.entries.keep_entry.Goals as goal
 
 pub returns : goal.returns
-returns g c =
+returns c =
     let m = c.in-Some.least in
     let made = c.in_ok-made.made in
     let to = c.in_ok-to.to in

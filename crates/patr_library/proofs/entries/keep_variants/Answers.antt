@@ -8,12 +8,12 @@ use Rattle.patr_library.proofs.KeptEntries.{among, entry_still, nothing_left, va
 use Rattle.patr_library.proofs.entries.keep_variants.Goals as goal
 
 pub loop-features-init : goal.loop-features-init
-loop-features-init g c =
+loop-features-init c =
     let long : into_iter_len c.into_iter-features-iterator.result ≡ length (into_iter_items c.into_iter-features-iterator.result) = search rules in
     (refl, none_dealt HasEntryItem HasNoEntry (shown_of c.args.arena.now) c.args.items.now.items, refl, long)
 
 pub keep_variant-requires : goal.keep_variant-requires
-keep_variant-requires g c =
+keep_variant-requires c =
     let at = c.loop-features in
     let x = c.in-Some.features in
     let steps : into_iter_items at.features-iterator ≡ x ∷ into_iter_items c.next.new.self = c.in-Some.ensures.steps.0 in
@@ -21,7 +21,7 @@ keep_variant-requires g c =
     among (StaysAlone c.args.entry.now) at.yielded (into_iter_items c.next.new.self) x c.args.variants.items whole c.requires
 
 pub loop-features-preserved : goal.loop-features-preserved
-loop-features-preserved g c =
+loop-features-preserved c =
     let at = c.loop-features in
     let x = c.in-Some.features in
     let v = shown_of c.args.arena.now in
@@ -40,7 +40,7 @@ loop-features-preserved g c =
     )
 
 pub returns : goal.returns
-returns g c =
+returns c =
     let at = c.loop-features in
     let none = c.in-None.ensures.steps in
     let empty : into_iter_items at.features-iterator ≡ [] = nothing_left _ (sym at.invariant.3 ∙ none.0) in

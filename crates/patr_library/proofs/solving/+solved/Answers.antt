@@ -9,7 +9,7 @@ use Rattle.patr_library.proofs.Parts.{halves, within_right, least_of_both, none_
 use Rattle.patr_library.proofs.solving.+solved.Goals as goal
 
 pub solved-requires : goal.solved-requires
-solved-requires g t c =
+solved-requires t c =
     let front = c.split_at.result.0.now in
     let back = c.split_at.result.1.now in
     let split = halves equation_at c.args.equations.now front back _ c.split_at.ensures.front c.split_at.ensures.back in
@@ -17,7 +17,7 @@ solved-requires g t c =
     search rules
 
 pub solved-requires-2 : goal.solved-requires-2
-solved-requires-2 g t c =
+solved-requires-2 t c =
     let front = c.split_at.result.0.now in
     let back = c.split_at.result.1.now in
     let split = halves equation_at c.args.equations.now front back _ c.split_at.ensures.front c.split_at.ensures.back in
@@ -25,7 +25,7 @@ solved-requires-2 g t c =
     search rules
 
 pub returns-in_default-clause-none : goal.returns-in_default-clause-none
-returns-in_default-clause-none g t c =
+returns-in_default-clause-none t c =
     let front = c.split_at.result.0.now in
     let back = c.split_at.result.1.now in
     let split = halves equation_at c.args.equations.now front back _ c.split_at.ensures.front c.split_at.ensures.back in
@@ -33,7 +33,7 @@ returns-in_default-clause-none g t c =
     subst (HasNone c.args.slots) (sym split) (none_still c.args.slots (equations_at front) (equations_at back) none)
 
 pub returns-in_default-2-clause-none : goal.returns-in_default-2-clause-none
-returns-in_default-2-clause-none g t c =
+returns-in_default-2-clause-none t c =
     let front = c.split_at.result.0.now in
     let back = c.split_at.result.1.now in
     let split = halves equation_at c.args.equations.now front back _ c.split_at.ensures.front c.split_at.ensures.back in
@@ -41,7 +41,7 @@ returns-in_default-2-clause-none g t c =
     subst (HasNone c.args.slots) (sym split) (none_of_back c.args.slots (equations_at front) (equations_at back) none)
 
 pub returns-clause-some : goal.returns-clause-some
-returns-clause-some g t c =
+returns-clause-some t c =
     let n = c.args.slots in
     let front = c.split_at.result.0.now in
     let back = c.split_at.result.1.now in
@@ -57,7 +57,7 @@ returns-clause-some g t c =
     c.in_ok-made.made c.in_ok-made.ensures.some
 
 pub returns-clause-none : goal.returns-clause-none
-returns-clause-none g t c =
+returns-clause-none t c =
     let n = c.args.slots in
     let front = c.split_at.result.0.now in
     let back = c.split_at.result.1.now in

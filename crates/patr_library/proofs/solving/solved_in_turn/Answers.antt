@@ -7,10 +7,10 @@ use Rattle.patr_library.proofs.Steps.{taken_more, all_of, within_taken, none_sti
 use Rattle.patr_library.proofs.solving.solved_in_turn.Goals as goal
 
 pub with_equation-requires : goal.with_equation-requires
-with_equation-requires g c = c.loop-equation.invariant.rooted
+with_equation-requires c = c.loop-equation.invariant.rooted
 
 pub returns-in_default-clause-none : goal.returns-in_default-clause-none
-returns-in_default-clause-none g c =
+returns-in_default-clause-none c =
     let xs = c.args.equations.now in
     let i = c.loop-equation.equation-index in
     let e = c.equation-item.result in
@@ -22,7 +22,7 @@ returns-in_default-clause-none g c =
     subst (HasNone n) (sym (all_of equation_at xs (i + 1))) (none_still n (equations_at (take (i + 1) xs)) (equations_at (drop (i + 1) xs)) (subst (HasNone n) (sym is) none))
 
 pub loop-equation-preserved : goal.loop-equation-preserved
-loop-equation-preserved g c =
+loop-equation-preserved c =
     let xs = c.args.equations.now in
     let i = c.loop-equation.equation-index in
     let e = c.equation-item.result in
@@ -35,7 +35,7 @@ loop-equation-preserved g c =
     subst (λ es. IsLeastAt n es m.block m.root) (sym is) some
 
 pub returns-clause-some : goal.returns-clause-some
-returns-clause-some g c =
+returns-clause-some c =
     let xs = c.args.equations.now in
     let l = c.loop-equation in
     let all : take l.equation-index xs ≡ xs = take_all l.equation-index xs (omega (arith, c.loop-equation-test.false, l.auto.equation-index-end)) in
