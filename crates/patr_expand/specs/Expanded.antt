@@ -1,5 +1,5 @@
 -- What the variants of a rule and of features are.
-use Rattle.std.specs.Prelude.{◌≡◌, ℕ, List, [], ◌∷◌, ◌++◌, map, filter_map, None}
+use Rattle.std.specs.Prelude.{◌≡◌, ℕ, List, ◌∷◌, ◌++◌, map, filter_map, None}
 use Rattle.patr_model.specs.Grammar as written
 use Rattle.patr_model.specs.Grammar.{rule_variants}
 use Rattle.patr_model.specs.Build.{rule_fault, rule_of, symbol_of, equation_of}

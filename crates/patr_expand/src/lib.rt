@@ -12,3 +12,6 @@ pub use equation::{Equation, SlotPath, Term};
 pub use features::expand_features;
 pub use rule::expand_rule;
 pub use variant::RuleVariant;
+
+#[cfg(test)]
+mod tests;
