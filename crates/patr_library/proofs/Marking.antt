@@ -111,7 +111,10 @@ each_kept marks es [] h = tt
 each_kept marks es (d ∷ ds) h = (marked_kept marks es d.to h.0, each_kept marks es ds h.1)
 
 first_or : (next n : ℕ) → next ≤ n → (next ≡ n) ⊎ (next < n)
-first_or next n l = omega (arith, l)
+first_or zero zero l = inl refl
+first_or zero (suc n) l = inr (omega arith)
+first_or (suc next) zero l = absurd (omega (arith, l))
+first_or (suc next) (suc n) l = elim (first_or next n (omega (arith, l))) as (λ _. (suc next ≡ suc n) ⊎ (suc next < suc n)) [ inl e ↦ inl (ap (λ m. suc m) e) | inr k ↦ inr (omega (arith, k)) ]
 
 -- ---- what is reached
 
@@ -207,13 +210,10 @@ next_long r old new h = ap length h.1 ∙ length-append old (h.0 ∷ [])
 pub copied_more : (marks : List Bool) (r : Bool) (old new : List (Option ℕ)) → r ≡ get_or marks (length old) false → AreCopied marks old → IsNextImage r old new → AreCopied marks new
 copied_more marks r old new is copied h n l =
     ap (λ (ls : List (Option ℕ)). is_some (image_at ls n)) h.1
-    ∙ elim (below_or (omega (arith, l, next_long r old new h))) as (λ _. is_some (image_at (old ++ h.0 ∷ []) n) ≡ get_or marks n false) [
-      | inl k ↦ ap is_some (get_or_append_left old (h.0 ∷ []) None n k) ∙ copied n k
-      | inr e ↦ subst (λ (m : ℕ). is_some (image_at (old ++ h.0 ∷ []) m) ≡ get_or marks m false) (sym e) (ap is_some (at_last old h.0) ∙ (h.2 ∙ is))
+    ∙ elim (first_or n (length old) (omega (arith, l, next_long r old new h))) as (λ _. is_some (image_at (old ++ h.0 ∷ []) n) ≡ get_or marks n false) [
+      | inl e ↦ subst (λ (m : ℕ). is_some (image_at (old ++ h.0 ∷ []) m) ≡ get_or marks m false) (sym e) (ap is_some (at_last old h.0) ∙ (h.2 ∙ is))
+      | inr k ↦ ap is_some (get_or_append_left old (h.0 ∷ []) None n k) ∙ copied n k
     ]
-  where
-    below_or : n < length old + 1 → (n < length old) ⊎ (n ≡ length old)
-    below_or k = omega (arith, k)
 
 module _ (S : Structure) (x : Value) (marks : List Bool) (images : List (Option ℕ)) (reached : AreReached S x marks) (copied : AreCopied marks images) where
   -- whatever a path leads to, and stands before, has a copy

@@ -13,6 +13,7 @@ use Rattle.patr_arena.specs.declared.value.Ref.{Ref}
 use Rattle.patr_arena.specs.declared.value.Ref.TheVariants as ref
 use Rattle.patr_arena.specs.declared.value.Feature.{Feature}
 use Rattle.patr_arena.specs.Blocks.{attributes}
+use Rattle.patr_arena.proofs.Rises.{rising_tail}
 use Rattle.patr_library.specs.Own.{own_value, own_arcs, own_nodes, pointed, AllOwn, IsOwn, IsOwnBlock, IsRooted, IsStatement}
 use Rattle.patr_library.specs.Solved.{slot_features, HasSlot, IsLeastAt, IsNew, HasNone, IsUnified, TakeNone}
 use Rattle.patr_library.proofs.Corresponding.{own_get}
@@ -178,24 +179,20 @@ pub still_new : (left : List (List Feature)) (l : ℕ) (whole : Structure) (y : 
 still_new left l whole y nodes r slot first second rooted =
     let x = carries_arc (own_nodes left) whole first.by first.is_map (Node l) y first.root 0 slot.0 slot.1 in
     let z = carries_arc whole (own_nodes nodes) second.by second.is_map y (own_value r) second.root 0 x.0 x.2 in
-    go r rooted.root z.2
+    go r rooted.root z.0 z.2
   where
-    go : (r : Ref) → IsOwn (length nodes) r → arc (own_nodes nodes) (own_value r) 0 ≡ Some z.0 → IsNew r
-    go (ref.Atom c) own e = cc
-    go (ref.Old at) own e = absurd own
-    go (ref.New k) own e = tt
+    go : (r : Ref) → IsOwn (length nodes) r → (w : Value) → arc (own_nodes nodes) (own_value r) 0 ≡ Some w → IsNew r
+    go (ref.Atom c) own w e = cc
+    go (ref.Old at) own w e = absurd own
+    go (ref.New k) own w e = tt
 
--- the first arc of a node that has the attribute 0 is that one
-first_attribute : (fs : List Feature) → IsStrictlyIncreasing (attributes fs) → 0 < get_or (attributes fs) 0 1 → along (own_arcs fs) 0 ≡ None
-first_attribute [] rising some = refl
-first_attribute (f ∷ fs) rising some =
-    ap (λ b. cond b (Some (own_value f.to)) (along (own_arcs fs) 0)) (ne_eqb f.attribute.0 0 (λ e. omega (arith, e, some)))
-    ∙ first_attribute fs (λ i h. rising (suc i) (omega (arith, h))) (more fs (λ h. rising 0 (omega (arith, h))))
-  where
-    more : (gs : List Feature) → (0 < length gs → f.attribute.0 < get_or (attributes gs) 0 0) → 0 < get_or (attributes gs) 0 1
-    more [] h = omega arith
-    more (g ∷ gs) h = omega (arith, h (omega arith))
+-- no arc behind another one has the attribute 0
+later_none : (low : ℕ) (fs : List Feature) → IsStrictlyIncreasing (low ∷ attributes fs) → along (own_arcs fs) 0 ≡ None
+later_none low [] rising = refl
+later_none low (f ∷ fs) rising =
+    ap (λ b. cond b (Some (own_value f.to)) (along (own_arcs fs) 0)) (ne_eqb f.attribute.0 0 (λ e. omega (arith, e, rising 0 (omega arith)))) ∙ later_none f.attribute.0 fs (rising_tail low (attributes (f ∷ fs)) rising)
 
+-- so the arc of the first slot stands first
 pub slot_first : (nodes : List (List Feature)) (root : ℕ) (d : Feature) → IsOwnBlock nodes → HasSlot nodes root
     → (0 < length (get_or nodes root [])) × (arc (own_nodes nodes) (Node root) 0 ≡ Some (own_value (get_or (get_or nodes root []) 0 d).to))
 slot_first nodes root d own slot =
@@ -204,7 +201,8 @@ slot_first nodes root d own slot =
     (r.0, ap (λ es. along es 0) (own_get nodes root) ∙ r.1)
   where
     zero_or : (n : ℕ) → (n ≡ 0) ⊎ (0 < n)
-    zero_or n = omega arith
+    zero_or zero = inl refl
+    zero_or (suc n) = inr (omega arith)
 
     go : (fs : List Feature) → IsStrictlyIncreasing (attributes fs) → (x : Value) → along (own_arcs fs) 0 ≡ Some x → (0 < length fs) × (along (own_arcs fs) 0 ≡ Some (own_value (get_or fs 0 d).to))
     go [] rising x e = cc
@@ -212,6 +210,9 @@ slot_first nodes root d own slot =
       omega arith,
       elim (zero_or f.attribute.0) [
         | inl z ↦ ap (λ b. cond b (Some (own_value f.to)) (along (own_arcs fs) 0)) (eq-eqb f.attribute.0 0 z)
-        | inr p ↦ let bad = first_attribute (f ∷ fs) rising p in cc
+        | inr p ↦
+            let none : along (own_arcs (f ∷ fs)) 0 ≡ None = ap (λ b. cond b (Some (own_value f.to)) (along (own_arcs fs) 0)) (ne_eqb f.attribute.0 0 (λ e. omega (arith, e, p))) ∙ later_none f.attribute.0 fs rising in
+            let bad : None ≡ Some x = sym none ∙ e in
+            cc
       ],
     )

@@ -10,8 +10,8 @@ returns c =
     let x = c.args.variant.now in
     let m = c.in-Some.least in
     let made = c.in_ok-made.made in
-    let first : slice_get x.symbols.items 0 ≡ Some c.index-mother.result = search rules in
+    let first : slice_get x.symbols.items 0 ≡ Some c.index-mother.result.now = search rules in
     let long : c.len-count.result ≡ length x.symbols.items = search rules in
     let least : IsLeastAt c.len-count.result (equations_at x.equations.items) m.block m.root = search rules in
-    rule_dealt (shown_of c.args.arena.now) (shown_of c.store.new.arena) x c.index-mother.result c.len-count.result m.block m.root made.root made.nodes made.arcs c.args.items.now.items c.push.new.self.items c.args.arena.now.lawful
+    rule_dealt (shown_of c.args.arena.now) (shown_of c.store.new.arena) x c.index-mother.result.now c.len-count.result m.block m.root made.root made.nodes made.arcs c.args.items.now.items c.push.new.self.items c.args.arena.now.lawful
     first long least c.in_ok-made.ensures.arena c.in_ok-made.ensures.root.0 c.in_ok-made.ensures.root.1 c.in_ok-made.ensures.counts.0 c.in_ok-made.ensures.counts.1 c.in_ok-push.ensures.items

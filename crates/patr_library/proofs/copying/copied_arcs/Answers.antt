@@ -8,8 +8,8 @@ use Rattle.patr_library.proofs.copying.copied_arcs.Goals as goal
 pub resolve-requires : goal.resolve-requires
 resolve-requires c = held_at (shown_of c.args.arena.now) c.args.at.block c.arcs-arc-items.result.now c.loop-arc.arc-index _ c.arcs-arc-items.ensures.held (omega (arith, c.loop-arc-test.true))
 
-pub image_of-requires-clause-copied : goal.image_of-requires-clause-copied
-image_of-requires-clause-copied c =
+pub image_of-to-requires-clause-copied : goal.image_of-to-requires-clause-copied
+image_of-to-requires-clause-copied c =
     let to = image_at c.args.images.now in
     let v = shown_of c.args.arena.now in
     subst (HasCopy to) (sym c.resolve.ensures.same)

@@ -1,7 +1,9 @@
-use Rattle.std.proofs.Common.{◌≡◌, ◌∙◌, ap, sym, length, drop, arith, rules, refl}
+use Rattle.std.proofs.Common.{◌≡◌, ◌∙◌, List, ap, sym, length, drop, arith, rules, refl}
+use Rattle.std.proofs.lemmas.List.{drop_all}
 use Rattle.patr_arena.specs.Arenas.{shown_of}
 use Rattle.patr_arena.specs.Shown.{arcs_from}
 use Rattle.patr_library.specs.Copies.{with_marks}
+use Rattle.patr_arena.specs.declared.value.Feature.{Feature}
 use Rattle.patr_library.proofs.Imaging.{held_at}
 use Rattle.patr_library.proofs.Marking.{target_marked, value_long}
 use Rattle.patr_library.proofs.copying.mark_targets.Goals as goal
@@ -19,4 +21,9 @@ loop-arc-preserved c =
     }
 
 pub returns : goal.returns
-returns c = ?
+returns c =
+    let v = shown_of c.args.arena.now in
+    let fs = c.arcs-arc-items.result.now in
+    let l = c.loop-arc in
+    let none = drop_all l.arc-index fs (omega (arith, c.loop-arc-test.false)) in
+    sym (ap (λ (gs : List Feature). with_marks l.reached.items (arcs_from v c.args.at.block gs)) none) ∙ (l.invariant.marks ∙ ap (with_marks c.args.reached.now.items) c.arcs-arc-items.ensures.same)

@@ -18,7 +18,15 @@ keep_variant-requires c =
     let x = c.in-Some.features in
     let steps : into_iter_items at.features-iterator ≡ x ∷ into_iter_items c.next.new.self = c.in-Some.ensures.steps.0 in
     let whole = ap (λ l. at.yielded ++ l) (sym steps) ∙ (at.invariant.0 ∙ c.into_iter-features-iterator.ensures.into_iter_gives.0) in
-    among (StaysAlone c.args.entry.now) at.yielded (into_iter_items c.next.new.self) x c.args.variants.items whole c.requires
+    among (StaysAlone c.args.entry.now) at.yielded (into_iter_items c.next.new.self) x c.args.variants.items whole c.requires.alone
+
+pub overflow_add-variant : goal.overflow_add-variant
+overflow_add-variant c =
+    let at = c.loop-features in
+    let x = c.in-Some.features in
+    let steps : into_iter_items at.features-iterator ≡ x ∷ into_iter_items c.next.new.self = c.in-Some.ensures.steps.0 in
+    let whole = ap length (at.invariant.0 ∙ c.into_iter-features-iterator.ensures.into_iter_gives.0) in
+    omega (arith, at.invariant.2, whole, ap length steps, length-append at.yielded (into_iter_items at.features-iterator), c.requires.few)
 
 pub loop-features-preserved : goal.loop-features-preserved
 loop-features-preserved c =

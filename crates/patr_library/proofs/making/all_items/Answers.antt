@@ -1,4 +1,4 @@
-use Rattle.std.proofs.Common.{◌∙◌, ap, map, subst}
+use Rattle.std.proofs.Common.{◌∙◌, ap, arith, length, map, subst}
 use Rattle.patr_model.specs.Build.{in_lexicon}
 use Rattle.patr_arena.specs.Arenas.{shown_of}
 use Rattle.patr_library.specs.Built.{AreRulesDealt, all_numbered, variants_of}
@@ -18,6 +18,14 @@ returns-clause-items c =
     has_items grammar l u v w rules entries c.keep_entries.new.arena.lawful
     (subst (λ xs. AreRulesDealt u v (all_numbered 0 (map variants_of grammar.rules.items)) xs rules) c.new-rules.ensures.items c.in_default.ensures.dealt)
     (subst (λ xs. AreEntriesDealt v w (all_numbered 0 (map entry_variants_of l)) xs entries) c.new-entries.ensures.items c.in_default-keep_entries.ensures.dealt)
+
+pub returns-clause-few : goal.returns-clause-few
+returns-clause-few c =
+    let r = c.in_default.ensures.dealt.blocks in
+    let e = c.in_default-keep_entries.ensures.dealt.blocks in
+    let rules = ap length c.new-rules.ensures.items in
+    let entries = ap length c.new-entries.ensures.items in
+    (omega (arith, r, e, rules, entries, c.blocks-2.ensures), omega (arith, r, e, rules, entries, c.blocks-2.ensures))
 
 pub returns-clause-faultless : goal.returns-clause-faultless
 returns-clause-faultless c =

@@ -28,8 +28,8 @@ returns-in_default-clause-none c =
     let none : (G : Structure) (y : Value) → TakesBoth u.structure (Node n) [] u.structure x G y → ⊥ = search rules in
     same_none u.structure (Node n) u.structure x (own_nodes c.args.left.block) (Node c.args.left.root) (own_nodes c.args.right.block) (own_value c.args.right.root) both.0 both.1 none
 
-pub offset_of-requires : goal.offset_of-requires
-offset_of-requires c =
+pub offset_of-root-requires : goal.offset_of-root-requires
+offset_of-root-requires c =
     let v = shown_of c.new-arena.result in
     let w = shown_of c.push.new.arena in
     let u = shown_of c.push-2.new.arena in
