@@ -29,10 +29,10 @@ copy_next-requires-clause-copied c =
     let i = c.loop-place.invariant in
     let marks = c.in_ok-reached.reached.items in
     let n = c.loop-place.place in
-    let at = c.requires.places.each n _ (slice_get-get_or c.args.places.now n _ (omega (arith, c.loop-place-test.true))) in
+    let below : n < length marks = omega (arith, c.loop-place-test.true, c.in_ok-reached.ensures.long) in
+    let at = c.requires.places.each n _ (slice_get-get_or c.args.places.now n _ c.loop-place-test.true) in
     let next = at.1 ∙ sym i.1 in
     λ h.
-    let below : n < length marks = omega (arith, c.loop-place-test.true, c.in_ok-reached.ensures.long) in
     let here : get_or marks n false ≡ true = sym (get_or_read marks n _ below c.index.ensures false) ∙ h in
     arcs_copied v.structure (value_of v c.args.from) marks c.loop-place.images.items c.in_ok-reached.ensures.exact i.2 c.args.arena.now.lawful.structure _ next (ap (λ k. get_or marks k false) at.1 ∙ here)
 
