@@ -1,8 +1,5 @@
 -- The one variant of a row without choices.
-use Rattle.std.proofs.Common.{◌≡◌, ℕ, zero, suc, ◌+◌, ◌*◌, ◌<◌, List, [], ◌∷◌, ◌++◌, length, map, flat_map, filter_map, Option, Some, None, refl, sym, ap, ◌∙◌, arith, subst}
-use Rattle.std.proofs.lemmas.List.{length-map}
-use Rattle.std.specs.declared.vec.Vec.{Vec}
-use Rattle.std.specs.declared.alloc.Global.{Global}
+use Rattle.std.proofs.Common.{◌≡◌, ℕ, ◌+◌, ◌*◌, List, [], ◌∷◌, ◌++◌, length, map, flat_map, filter_map, None, refl, sym, ap, ◌∙◌, arith}
 use Rattle.patr_model.specs.Grammar as written
 use Rattle.patr_model.specs.Grammar.{Row, variants, single, products, rule_variants, rule_variant_of}
 use Rattle.patr_model.specs.Productions.{row, Single, Equates}
@@ -10,10 +7,9 @@ use Rattle.patr_model.specs.Build.{mapped, longest, size_fault, rule_fault, rule
 use Rattle.patr_grammar.specs.declared.grammar.RuleText.{RuleText}
 use Rattle.patr_grammar.specs.declared.grammar.SymbolText.{SymbolText}
 use Rattle.patr_grammar.specs.declared.grammar.Element.{Element}
-use Rattle.patr_grammar.specs.Reading.{element_seen, item_seen, rule_seen, symbol_seen, right_seen, equations_seen, features_seen}
-use Rattle.patr_expand.specs.declared.rule.RuleVariant.{RuleVariant}
-use Rattle.patr_expand.specs.declared.equation.Equation.{Equation}
-use Rattle.patr_expand.specs.Seen.{number, cat, symbols_seen, equations_at, lists_at, variants_at, features_fault, rule_symbols, AreNumbered}
+use Rattle.patr_grammar.specs.Reading.{element_seen, item_seen, rule_seen, symbol_seen, equations_seen, features_seen}
+use Rattle.patr_expand.specs.declared.variant.RuleVariant.{RuleVariant}
+use Rattle.patr_expand.specs.Seen.{number, cat, symbols_seen, features_fault}
 use Rattle.patr_expand.specs.Expanded.{IsOnly, IsExpanded}
 
 -- single things, each with one variant, have one together

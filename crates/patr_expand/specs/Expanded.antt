@@ -1,11 +1,11 @@
 -- What the variants of a rule and of features are.
-use Rattle.std.specs.Prelude.{◌≡◌, ℕ, List, [], ◌∷◌, ◌++◌, map, filter_map, None}
+use Rattle.std.specs.Prelude.{◌≡◌, ℕ, List, ◌∷◌, ◌++◌, map, filter_map, None}
 use Rattle.patr_model.specs.Grammar as written
 use Rattle.patr_model.specs.Grammar.{rule_variants}
 use Rattle.patr_model.specs.Build.{rule_fault, rule_of, symbol_of, equation_of}
 use Rattle.patr_grammar.specs.declared.grammar.RuleText.{RuleText}
 use Rattle.patr_grammar.specs.Reading.{element_seen, item_seen, rule_seen, symbol_seen}
-use Rattle.patr_expand.specs.declared.rule.RuleVariant.{RuleVariant}
+use Rattle.patr_expand.specs.declared.variant.RuleVariant.{RuleVariant}
 use Rattle.patr_expand.specs.Seen.{number, cat, symbols_seen, equations_at, variants_at, rule_symbols, AreNumbered}
 
 -- the one variant of a rule without choices

@@ -1,12 +1,11 @@
 -- What the values of the code are, as the definitions see them.
-use Rattle.std.specs.Prelude.{◌≡◌, ℕ, suc, List, [], ◌∷◌, length, map, flat_map, Option, Some, None}
+use Rattle.std.specs.Prelude.{◌≡◌, ℕ, suc, List, [], ◌∷◌, length, map, flat_map, Option, Some}
 use Rattle.std.specs.declared.vec.Vec.{Vec}
 use Rattle.std.specs.declared.alloc.Global.{Global}
 use Rattle.patr_model.specs.Equation as model
 use Rattle.patr_model.specs.Equation.{AtomOf, PathOf}
 use Rattle.patr_model.specs.Derivation as derivation
-use Rattle.patr_model.specs.Grammar.{Row, Symbol, WrittenRule, single, variants}
-use Rattle.patr_model.specs.Productions.{FeatureText}
+use Rattle.patr_model.specs.Grammar.{Symbol, WrittenRule, single, variants}
 use Rattle.patr_model.specs.Build as build
 use Rattle.patr_model.specs.Build.{SizeFault, longest, size_fault, symbol_of}
 use Rattle.patr_text.specs.declared.symbols.Id.{Id}
@@ -21,7 +20,7 @@ use Rattle.patr_expand.specs.declared.equation.SlotPath.{SlotPath}
 use Rattle.patr_expand.specs.declared.equation.Term.{Term}
 use Rattle.patr_expand.specs.declared.equation.Term.TheVariants.{Atom, Path}
 use Rattle.patr_expand.specs.declared.equation.Equation.{Equation}
-use Rattle.patr_expand.specs.declared.rule.RuleVariant.{RuleVariant}
+use Rattle.patr_expand.specs.declared.variant.RuleVariant.{RuleVariant}
 
 -- a symbol's number
 abbrev pub number : Id → ℕ

@@ -1,5 +1,5 @@
 //! The variants of features.
-ghost use Rattle.std.specs.Prelude.{◌≡◌, ◌++◌, None, IfOk, IfErr, map};
+ghost use Rattle.std.specs.Prelude.{◌≡◌, ◌≤◌, ◌++◌, None, IfOk, IfErr, length, map};
 ghost use Rattle.patr_model.specs.Build as model;
 ghost use Rattle.patr_model.specs.Build.{feature_variants};
 ghost use Rattle.patr_model.specs.Grammar.{variants};
@@ -47,7 +47,7 @@ fn feature_equations(alloc: Global, body: &[Element]) -> Result<Vec<Equation>, M
     Ok(equations)
 }
 
-/// The variants of features that stand at this line. They are refused where a variant has more than 1,024 written
+/// The variants of features that stand at this line, at most 256. They are refused where a variant has more than 1,024 written
 /// equations.
 pub fn expand_features(
     alloc: Global,
@@ -55,6 +55,7 @@ pub fn expand_features(
     body: &[Element],
     line: u32,
 ) -> Result<Vec<Vec<Equation>>, Fault<ExpandCause>>
+    ensures few { IfOk result (λ found. length found.items ≤ 256) }
     ensures variants { IfOk result (λ found. lists_at found.items ≡ variants (feature_variants number) (features_seen body.now)) }
     ensures faultless { IfOk result (λ _. features_fault line body.now ≡ None) }
     ensures refused { IfErr result (λ fault. IsRefusedBy (features_fault line body.now) fault) }

@@ -5,8 +5,13 @@ mod cause;
 mod equation;
 mod features;
 mod rule;
+mod variant;
 
 pub use cause::ExpandCause;
 pub use equation::{Equation, SlotPath, Term};
 pub use features::expand_features;
-pub use rule::{RuleVariant, expand_rule};
+pub use rule::expand_rule;
+pub use variant::RuleVariant;
+
+#[cfg(test)]
+mod tests;

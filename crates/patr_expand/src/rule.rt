@@ -1,5 +1,5 @@
 //! The variants of a rule.
-ghost use Rattle.std.specs.Prelude.{◌≡◌, ◌<◌, ◌^◌, ◌++◌, ◌∷◌, None, Some, IfOk, IfErr, length, map, slice_get, filter_map};
+ghost use Rattle.std.specs.Prelude.{◌≡◌, ◌+◌, ◌<◌, ◌≤◌, ◌^◌, ◌++◌, ◌∷◌, None, Some, IfOk, IfErr, length, map, slice_get, filter_map};
 ghost use Rattle.std.specs.Option.{option_map};
 ghost use Rattle.patr_model.specs.Build as model;
 ghost use Rattle.patr_model.specs.Build.{rule_fault};
@@ -11,24 +11,13 @@ ghost use Rattle.patr_expand.specs.Expanded.{IsOnly, IsExpanded};
 
 use crate::cause::{ExpandCause, too_many};
 use crate::equation::{Equation, SlotPath, Term};
+use crate::variant::RuleVariant;
 use patr_grammar::{Element, Grammar, Item, PathText, RuleText, SymbolText, TermText};
 use patr_text::{Fault, Id, Memory};
-use std::alloc::{AllocError, Global};
+use std::alloc::Global;
 
 /// The number of the attribute `cat`.
 const CAT: Id = Id(33);
-
-/// A variant of a rule.
-#[derive(Debug, Drop)]
-pub struct RuleVariant {
-    /// The rule's number in the grammar, and the variant's in the rule, both from 0.
-    pub rule: u32,
-    pub variant: u32,
-    /// Its constituents, the mother first.
-    pub symbols: Vec<SymbolText>,
-    /// The equations of the constituents' categories, and then the written ones that name no symbol that is left out.
-    pub equations: Vec<Equation>,
-}
 
 /// The slot of the first constituent with this symbol.
 fn slot_of(symbols: &[SymbolText], symbol: Id) -> Option<u32>
@@ -145,7 +134,8 @@ fn push_written(
 
 /// The constituents of a rule, the mother first.
 fn constituents(alloc: Global, rule: &RuleText) -> Result<Vec<SymbolText>, Memory>
-    ensures { IfOk result (λ symbols. symbols_seen symbols.items ≡ map (λ x. model.symbol_of number x) (symbol_seen rule.now.mother ∷ map item_seen rule.now.right.items)) }
+    ensures symbols { IfOk result (λ symbols. symbols_seen symbols.items ≡ map (λ x. model.symbol_of number x) (symbol_seen rule.now.mother ∷ map item_seen rule.now.right.items)) }
+    ensures count { IfOk result (λ symbols. length symbols.items ≡ length rule.now.right.items + 1) }
 {
     let mut symbols = vec![in alloc; rule.mother]?;
     for item in &rule.right {
@@ -160,9 +150,6 @@ fn only_variant(alloc: Global, rule: &RuleText, number: u32) -> Result<RuleVaria
     ensures { IfOk result (λ variant. IsOnly number rule.now variant) }
 {
     let symbols = constituents(alloc, rule)?;
-    if symbols.len() > u32::MAX as usize {
-        return Err(AllocError);
-    }
     let mut equations = Vec::new(alloc);
     push_categories(alloc, &symbols, &mut equations)?;
     push_written(

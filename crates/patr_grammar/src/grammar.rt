@@ -1,5 +1,5 @@
 //! What the bytes of a grammar stand for.
-ghost use Rattle.std.specs.Prelude.{◌≡◌};
+ghost use Rattle.std.specs.Prelude.{◌≡◌, ◌<◌, ◌≤◌, ◌^◌, length};
 ghost use Rattle.patr_model.specs.GrammarText.{what_text};
 
 use patr_model::What;
@@ -57,6 +57,7 @@ pub struct RuleText {
     pub right: Vec<Item>,
     /// In each path the first word is a symbol of the rule.
     pub equations: Vec<Element>,
+    ghost few: { length right.items ≤ 32 },
 }
 
 /// A grammar as it is written.
@@ -65,6 +66,7 @@ pub struct Grammar {
     pub rules: Vec<RuleText>,
     /// The category that sentences have.
     pub start: Id,
+    ghost few: { length rules.items < 2 ^ 32 },
 }
 
 /// Why bytes stand for no grammar. Lines and columns count from 1, columns in bytes.

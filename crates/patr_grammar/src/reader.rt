@@ -1,5 +1,5 @@
 //! Reading a grammar from lexemes.
-ghost use Rattle.std.specs.Prelude.{◌≡◌, ◌<◌, ◌≤◌, [], length, map, IfOk, OnOk, false};
+ghost use Rattle.std.specs.Prelude.{◌≡◌, ◌+◌, ◌<◌, ◌≤◌, [], length, map, IfOk, OnOk, false};
 ghost use Rattle.patr_model.specs.declared.front.Kind.TheVariants.{Arrow, OpenBrace};
 ghost use Rattle.patr_model.specs.declared.notation.What.TheVariants.{Symbol};
 ghost use Rattle.patr_model.specs.Lexemes.{is_kind, is_key, is_symbol, begins};
@@ -189,6 +189,7 @@ impl Reader<'_> {
         ensures gives { GivesAt (λ i. Single (item_seen i)) result (left_over left.new self.new.rest.now) self.new.rest.now (item by_id stage.groups 16 (left_over left.old self.old.rest.now)) }
         ensures shorter { OnOk result (length self.new.rest.now < length self.old.rest.now) }
         ensures no_longer { length self.new.rest.now ≤ length self.old.rest.now }
+        ensures one { OnOk result (left.new + 1 ≡ left.old) }
     {
         if self.begins(Kind::OpenParen) || self.begins(Kind::OpenBrace) {
             return Err(Fault::Refused(Refusal::LaterForm));
@@ -210,6 +211,7 @@ impl Reader<'_> {
     fn right_side(&mut self) -> Result<Vec<Item>, Fault<Refusal>>
         ensures gives { Gives right_view result self.new.rest.now (right_side by_id stage self.old.rest.now) }
         ensures shorter { length self.new.rest.now ≤ length self.old.rest.now }
+        ensures few { IfOk result (λ v. length v.items ≤ 32) }
     {
         let mut right = Vec::new(self.alloc);
         let mut left = MOST_SYMBOLS;

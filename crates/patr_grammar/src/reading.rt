@@ -36,6 +36,7 @@ fn cause_at(refusal: Refusal, place: Place) -> GrammarCause
 /// The grammar of these rules, whose start symbol is the first one's category. `None` exactly where
 /// there is no rule.
 fn grammar_of(rules: Vec<RuleText>) -> Option<Grammar>
+    requires { length rules.items < 2 ^ 32 }
     ensures some { IfSome result (λ g. 0 < length rules.items) }
     ensures rules { IfSome result (λ g. g.rules.items ≡ rules.items) }
     ensures start { IfSome result (λ g. (default : RuleText) → g.start ≡ (slice_index_or rules.items 0 default).mother.category) }
@@ -50,7 +51,8 @@ fn grammar_of(rules: Vec<RuleText>) -> Option<Grammar>
 
 /// What the lexemes of a text stand for.
 fn read(alloc: Global, text: &str, lexemes: &[Lexeme]) -> Result<Grammar, Fault<GrammarCause>>
-    requires { length text.now < 2 ^ 32 - 1 }
+    requires text { length text.now < 2 ^ 32 - 1 }
+    requires lexemes { length lexemes.now < 2 ^ 32 }
     ensures answers { (cat : Id) → Answers cat (after start_place text.now) result (grammar by_id stage cat lexemes.now) }
     ensures few { IfOk result (λ g. length g.rules.items ≤ length lexemes.now) }
 {

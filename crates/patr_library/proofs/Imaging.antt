@@ -68,7 +68,7 @@ at_kept [] x (suc n) k h = cc
 at_kept (y ∷ images) x zero k h = h
 at_kept (y ∷ images) x (suc n) k h = at_kept images x n k h
 
-at_last : (images : List (Option ℕ)) (x : Option ℕ) → image_at (images ++ x ∷ []) (length images) ≡ x
+pub at_last : (images : List (Option ℕ)) (x : Option ℕ) → image_at (images ++ x ∷ []) (length images) ≡ x
 at_last [] x = refl
 at_last (y ∷ images) x = at_last images x
 

@@ -1,11 +1,11 @@
 -- What is kept of each variant.
-use Rattle.std.proofs.Common.{◌≡◌, ◌⊎◌, inl, inr, ℕ, zero, suc, ◌+◌, ◌-◌, ◌<◌, List, [], ◌∷◌, ◌++◌, length, map, take, get_or, Some, slice_get, refl, sym, ap, ◌∙◌, arith, subst}
+use Rattle.std.proofs.Common.{◌≡◌, ◌⊎◌, inl, inr, ℕ, zero, suc, ◌+◌, ◌-◌, ◌<◌, List, [], ◌∷◌, ◌++◌, length, length-append, map, take, get_or, Some, slice_get, refl, sym, ap, ◌∙◌, arith, subst}
 use Rattle.std.specs.Option.{option_map}
 use Rattle.std.specs.List.{sum_by}
 use Rattle.std.proofs.lemmas.List.{length-map, map-append, take_more, append-nil, append_assoc}
 use Rattle.std.proofs.lemmas.Option.{slice_get-map, slice_get_within}
 use Rattle.patr_grammar.specs.declared.grammar.SymbolText.{SymbolText}
-use Rattle.patr_expand.specs.declared.rule.RuleVariant.{RuleVariant}
+use Rattle.patr_expand.specs.declared.variant.RuleVariant.{RuleVariant}
 use Rattle.patr_expand.specs.Seen.{equations_at, variant_at}
 use Rattle.patr_arena.specs.declared.value.Feature.{Feature}
 use Rattle.patr_arena.specs.declared.value.Addr.{Addr}
@@ -111,13 +111,14 @@ kept_map {D = D} {I = I} good better bad f (x ∷ ds) (i ∷ is) k = elim k as (
 
 module _ {D I : Type 0} (good : Shown → D → I → Type 0) (bad : D → Type 0) where
   pub none_dealt : (v : Shown) (old : List I) → AreDealt good bad v v [] old old
-  none_dealt v old = record { extends = extends_self v; kept = λ done k. subst (λ l. AreKept (good v) bad l old) (sym (append-nil done)) k }
+  none_dealt v old = record { extends = extends_self v; blocks = omega arith; kept = λ done k. subst (λ l. AreKept (good v) bad l old) (sym (append-nil done)) k }
 
   -- one more
   pub one_dealt : ((v w : Shown) → Extends v w → (d : D) (i : I) → good v d i → good w d i) → (v w u : Shown) (ds : List D) (d : D) (old mid new : List I)
       → AreDealt good bad v w ds old mid → IsDealt good bad w u d mid new → AreDealt good bad v u (ds ++ d ∷ []) old new
   one_dealt still v w u ds d old mid new a (inl h) = record {
     extends = subst (Extends v) h.0 a.extends;
+    blocks = omega (arith, a.blocks, ap length h.1, ap (λ (x : Shown). length x.sizes) h.0);
     kept = λ done k.
         subst (λ l. AreKept (good u) bad l new) (append_assoc done ds (d ∷ []))
         (subst (λ x. AreKept (good x) bad ((done ++ ds) ++ d ∷ []) new) h.0
@@ -125,6 +126,7 @@ module _ {D I : Type 0} (good : Shown → D → I → Type 0) (bad : D → Type 
   }
   one_dealt still v w u ds d old mid new a (inr h) = record {
     extends = extends_more v w u a.extends (further w u h.0 h.1);
+    blocks = omega (arith, a.blocks, ap length h.3, length-append mid (h.2 ∷ []), ap (λ (x : Shown). length x.sizes) h.1, length-append w.sizes (length h.0 ∷ []));
     kept = λ done k.
         subst (λ l. AreKept (good u) bad l new) (append_assoc done ds (d ∷ []))
         (subst (λ is. AreKept (good u) bad ((done ++ ds) ++ d ∷ []) is) (sym h.3)
@@ -135,6 +137,7 @@ module _ {D I : Type 0} (good : Shown → D → I → Type 0) (bad : D → Type 
   pub both_dealt : (v w u : Shown) (ds es : List D) (old mid new : List I) → AreDealt good bad v w ds old mid → AreDealt good bad w u es mid new → AreDealt good bad v u (ds ++ es) old new
   both_dealt v w u ds es old mid new d e = record {
     extends = extends_more v w u d.extends e.extends;
+    blocks = omega (arith, d.blocks, e.blocks);
     kept = λ done a. subst (λ l. AreKept (good u) bad l new) (append_assoc done ds es) (e.kept (done ++ ds) (d.kept done a));
   }
 

@@ -13,7 +13,7 @@ use Rattle.patr_text.specs.declared.fault.Fault.TheVariants.{Memory, Refused}
 use Rattle.patr_model.proofs.Maps.{some_inj}
 use Rattle.patr_grammar.specs.declared.grammar.RuleText.{RuleText}
 use Rattle.patr_grammar.specs.Reading.{rule_seen}
-use Rattle.patr_expand.specs.declared.rule.RuleVariant.{RuleVariant}
+use Rattle.patr_expand.specs.declared.variant.RuleVariant.{RuleVariant}
 use Rattle.patr_expand.specs.declared.cause.ExpandCause.{ExpandCause}
 use Rattle.patr_expand.specs.Seen.{number, equations_at, variant_at, variants_at, AreNumbered, IsRefusedBy, cause_seen}
 use Rattle.patr_library.specs.Stored.{keys}

@@ -7,6 +7,7 @@ mod KeptEntries
 mod KeptRules
 mod Listed
 mod Listing
+mod Marking
 mod Merged
 mod Owned
 mod Parts

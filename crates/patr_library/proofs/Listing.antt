@@ -38,6 +38,3 @@ pub put_numbers : (lists : List (Vec ℕ Global)) (at : ℕ) (v w : Vec ℕ Glob
 put_numbers lists at v w n h is more =
     map-set (λ v. v.items) lists at w
     ∙ ap (λ l. set (numbers lists) at l) (more ∙ ap (λ l. l ++ n ∷ []) (ap (λ x. x.items) is ∙ sym (get_or-map (λ v. v.items) lists at v [] h)))
-
-pub keep_numbers : (lists : List (Vec ℕ Global)) (at : ℕ) (v w : Vec ℕ Global) → v ≡ get_or lists at v → w.items ≡ v.items → numbers (set lists at w) ≡ numbers lists
-keep_numbers lists at v w is same = map-set_same (λ v. v.items) lists at w v (same ∙ ap (λ x. x.items) is)

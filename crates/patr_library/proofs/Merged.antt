@@ -1,6 +1,9 @@
 -- The items of rules and entries together, and what is found by key.
-use Rattle.std.proofs.Common.{◌≡◌, ℕ, zero, suc, ◌+◌, ◌<◌, Bool, cond, List, [], ◌∷◌, ◌++◌, length, map, take, get_or, Some, None, refl, sym, ap, ◌∙◌, arith, subst}
-use Rattle.std.proofs.lemmas.List.{map-append, take_more}
+use Rattle.std.proofs.Common.{◌≡◌, ℕ, zero, suc, ◌+◌, ◌<◌, Bool, cond, List, [], ◌∷◌, ◌++◌, length, map, take, get_or, slice_get, Some, None, refl, sym, ap, ◌∙◌, arith, subst}
+use Rattle.std.specs.List.{AllByRecursion}
+use Rattle.std.proofs.lemmas.List.{length-map, map-append, take_more}
+use Rattle.std.proofs.lemmas.Option.{slice_get_within}
+use Rattle.patr_model.proofs.Maps.{and_then_some}
 use Rattle.std.proofs.lemmas.Simd.{map-map}
 use Rattle.patr_model.specs.Numbered.{places}
 use Rattle.patr_model.specs.Build.{build_fault, rules_fault, entries_fault, grammar_first, in_lexicon, rule_of, entry_variants}
@@ -15,7 +18,7 @@ use Rattle.patr_arena.specs.Shown.{Shown, IsShown}
 use Rattle.patr_library.specs.declared.item.RuleItem.{RuleItem}
 use Rattle.patr_library.specs.declared.item.EntryItem.{EntryItem}
 use Rattle.patr_library.specs.Lists.{has_key}
-use Rattle.patr_library.specs.Stored.{HasItems, built_rules, grammar_of, entries_of, keys, number, word_at, is_number, is_of_word, is_of_mother}
+use Rattle.patr_library.specs.Stored.{AreOfEntries, HasItems, IsEntryItem, built_rules, grammar_of, entries_of, keys, number, word_at, is_number, is_of_word, is_of_mother}
 use Rattle.patr_library.specs.Built.{AreKept, AreRulesDealt, HasRuleItem, HasNoRule, all_numbered, variants_of}
 use Rattle.patr_library.specs.Entries.{AreEntriesDealt, HasEntryItem, HasNoEntry, entry_variants_of}
 use Rattle.patr_library.proofs.Keeping.{kept_map, rule_still}
@@ -48,6 +51,19 @@ has_items g l u v w rules entries s d e =
       entries_rise = entries_rise b w s built.within.entries built.chains entries h;
       every_entry = every_entry b w s built.within.entries built.chains entries h;
     }
+
+-- each item is one of an entry that is there
+pub entries_there : (g : Grammar) (l : List Entry) (v : Shown) (es : List EntryItem) → AllByRecursion (IsEntryItem (built_rules g l) v) es → AreOfEntries (length l) es
+entries_there g l v [] h = tt
+entries_there g l v (i ∷ es) h =
+    let all = (built_rules g l).entries in
+    let here = and_then_some (slice_get all i.entry) (λ vs. slice_get vs i.variant) h.0.variant h.0.is in
+    (omega (arith, slice_get_within all i.entry here.0 here.1, ap length (entries_are g l), length-map l entry_variants_of), entries_there g l v es h.1)
+
+pub of_entry_at : (n : ℕ) (es : List EntryItem) (i : ℕ) (d : EntryItem) → AreOfEntries n es → i < length es → (get_or es i d).entry < n
+of_entry_at n [] i d h l = absurd (omega (arith, l))
+of_entry_at n (e ∷ es) zero d h l = h.0
+of_entry_at n (e ∷ es) (suc i) d h l = of_entry_at n es i d h.1 (omega (arith, l))
 
 -- no rule has a fault, so the first is that of the entries
 pub fault_is : (g : Grammar) (l : List Entry) → rules_fault (map rule_seen g.rules.items) ≡ None → build_fault (grammar_of g) (entries_of l) ≡ in_lexicon (entries_fault (map entry_seen l))

@@ -1,20 +1,22 @@
 -- The least value of one more equation.
-use Rattle.std.proofs.Common.{◌≡◌, ℕ, zero, suc, ◌+◌, ◌<◌, ◌≤◌, List, [], ◌∷◌, ◌++◌, length, length-append, map, get_or, replicate, take, drop, None, refl, sym, ap, ◌∙◌, arith, subst}
+use Rattle.std.proofs.Common.{◌≡◌, ◌⊎◌, inl, inr, ℕ, zero, suc, ◌+◌, ◌<◌, ◌≤◌, cond, List, [], ◌∷◌, ◌++◌, length, length-append, map, get_or, slice_get, replicate, take, drop, None, Some, refl, sym, ap, ◌∙◌, arith, subst, eq-eqb, ne_eqb}
 use Rattle.std.proofs.lemmas.List.{map-append, length-replicate, take_more, take-append-drop}
 use Rattle.std.specs.List.Sorted.{IsStrictlyIncreasing}
-use Rattle.patr_model.specs.Structure.{Value, Node, Arcs, Structure, IsValue, IsStructure}
+use Rattle.patr_model.specs.Structure.{Value, Node, Arcs, Structure, IsValue, IsStructure, along, arc}
 use Rattle.patr_model.specs.Subsumption.{MapsInto, Same, TakesBoth, IsUnifier}
 use Rattle.patr_model.specs.Equation.{Equation}
 use Rattle.patr_model.specs.Solution.{slots_from}
 use Rattle.patr_model.specs.Variants.{variant, RuleAt, IsLeastOf, AreWithin, IsWithin, equation_at, blank_slots, nodes_from}
-use Rattle.patr_model.proofs.Maps.{maps_reflexive, maps_transitive}
+use Rattle.patr_model.proofs.Maps.{carries_arc, maps_reflexive, maps_transitive}
 use Rattle.patr_model.proofs.Variants.{rule_carried, variant_steps}
 use Rattle.patr_arena.specs.declared.value.Ref.{Ref}
 use Rattle.patr_arena.specs.declared.value.Ref.TheVariants as ref
 use Rattle.patr_arena.specs.declared.value.Feature.{Feature}
 use Rattle.patr_arena.specs.Blocks.{attributes}
-use Rattle.patr_library.specs.Own.{own_value, own_arcs, own_nodes, pointed, AllOwn, IsOwnBlock, IsRooted, IsStatement}
-use Rattle.patr_library.specs.Solved.{slot_features, IsLeastAt, HasNone, IsUnified, TakeNone}
+use Rattle.patr_arena.proofs.Rises.{rising_tail}
+use Rattle.patr_library.specs.Own.{own_value, own_arcs, own_nodes, pointed, AllOwn, IsOwn, IsOwnBlock, IsRooted, IsStatement}
+use Rattle.patr_library.specs.Solved.{slot_features, HasSlot, IsLeastAt, IsNew, HasNone, IsUnified, TakeNone}
+use Rattle.patr_library.proofs.Corresponding.{own_get}
 use Rattle.patr_library.proofs.Placed.{own_structure, own_is_value}
 
 -- ---- unspecified slots
@@ -155,3 +157,62 @@ all_of f xs i = ap (map f) (sym (take-append-drop i xs)) ∙ map-append f (take 
 
 pub within_taken : {X : Type 0} (f : X → Equation) (n : ℕ) (xs : List X) (i : ℕ) → AreWithin n (map f xs) → AreWithin n (map f (take i xs))
 within_taken f n xs i w = within_left n (map f (take i xs)) (map f (drop i xs)) (subst (AreWithin n) (all_of f xs i) w)
+
+-- ---- the first slot
+
+-- where there are slots, there is a first one
+pub first_slot : (slots : ℕ) (es : List Equation) (nodes : List (List Feature)) (root : ℕ) → 0 < slots → IsLeastAt slots es nodes root → HasSlot nodes root
+first_slot slots es nodes root some at =
+    let cs = replicate slots 0 in
+    let count = length-replicate {A = ℕ} slots 0 in
+    let holds = (at.least cs count).holds in
+    let v = first_of_list holds.0 (omega (arith, some, holds.1.count, count)) in
+    (v.0, holds.2 0 v.0 v.1)
+  where
+    first_of_list : (vs : List Value) → 0 < length vs → (v : Value) × (slice_get vs 0 ≡ Some v)
+    first_of_list [] h = absurd (omega (arith, h))
+    first_of_list (v ∷ vs) h = (v, refl)
+
+-- a value into which a node with a first slot maps has one, so it is a node
+pub still_new : (left : List (List Feature)) (l : ℕ) (whole : Structure) (y : Value) (nodes : List (List Feature)) (r : Ref) → HasSlot left l → MapsInto (own_nodes left) (Node l) whole y → MapsInto whole y (own_nodes nodes) (own_value r)
+    → IsRooted nodes r → IsNew r
+still_new left l whole y nodes r slot first second rooted =
+    let x = carries_arc (own_nodes left) whole first.by first.is_map (Node l) y first.root 0 slot.0 slot.1 in
+    let z = carries_arc whole (own_nodes nodes) second.by second.is_map y (own_value r) second.root 0 x.0 x.2 in
+    go r rooted.root z.0 z.2
+  where
+    go : (r : Ref) → IsOwn (length nodes) r → (w : Value) → arc (own_nodes nodes) (own_value r) 0 ≡ Some w → IsNew r
+    go (ref.Atom c) own w e = cc
+    go (ref.Old at) own w e = absurd own
+    go (ref.New k) own w e = tt
+
+-- no arc behind another one has the attribute 0
+later_none : (low : ℕ) (fs : List Feature) → IsStrictlyIncreasing (low ∷ attributes fs) → along (own_arcs fs) 0 ≡ None
+later_none low [] rising = refl
+later_none low (f ∷ fs) rising =
+    ap (λ b. cond b (Some (own_value f.to)) (along (own_arcs fs) 0)) (ne_eqb f.attribute.0 0 (λ e. omega (arith, e, rising 0 (omega arith)))) ∙ later_none f.attribute.0 fs (rising_tail low (attributes (f ∷ fs)) rising)
+
+-- so the arc of the first slot stands first
+pub slot_first : (nodes : List (List Feature)) (root : ℕ) (d : Feature) → IsOwnBlock nodes → HasSlot nodes root
+    → (0 < length (get_or nodes root [])) × (arc (own_nodes nodes) (Node root) 0 ≡ Some (own_value (get_or (get_or nodes root []) 0 d).to))
+slot_first nodes root d own slot =
+    let fs = get_or nodes root [] in
+    let r = go fs (own.block.rising root) slot.0 (ap (λ es. along es 0) (sym (own_get nodes root)) ∙ slot.1) in
+    (r.0, ap (λ es. along es 0) (own_get nodes root) ∙ r.1)
+  where
+    zero_or : (n : ℕ) → (n ≡ 0) ⊎ (0 < n)
+    zero_or zero = inl refl
+    zero_or (suc n) = inr (omega arith)
+
+    go : (fs : List Feature) → IsStrictlyIncreasing (attributes fs) → (x : Value) → along (own_arcs fs) 0 ≡ Some x → (0 < length fs) × (along (own_arcs fs) 0 ≡ Some (own_value (get_or fs 0 d).to))
+    go [] rising x e = cc
+    go (f ∷ fs) rising x e = (
+      omega arith,
+      elim (zero_or f.attribute.0) [
+        | inl z ↦ ap (λ b. cond b (Some (own_value f.to)) (along (own_arcs fs) 0)) (eq-eqb f.attribute.0 0 z)
+        | inr p ↦
+            let none : along (own_arcs (f ∷ fs)) 0 ≡ None = ap (λ b. cond b (Some (own_value f.to)) (along (own_arcs fs) 0)) (ne_eqb f.attribute.0 0 (λ e. omega (arith, e, p))) ∙ later_none f.attribute.0 fs rising in
+            let bad : None ≡ Some x = sym none ∙ e in
+            cc
+      ],
+    )

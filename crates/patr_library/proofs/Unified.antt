@@ -12,6 +12,7 @@ use Rattle.patr_unify.specs.Copying.{IsMade}
 use Rattle.patr_library.specs.Own.{own_nodes, own_value, IsOwn, IsOwnBlock, IsRooted}
 use Rattle.patr_library.proofs.Owned.{held_anywhere}
 use Rattle.patr_library.proofs.Placed.{placed_same, placed_new, placed_longer, own_shift, ref_same}
+use Rattle.patr_library.proofs.Steps.{same_unifier}
 
 own_ref_held : (v : Shown) (n : ℕ) (r : Ref) → IsOwn n r → OldRefIsHeld v r
 own_ref_held v n (ref.Atom c) h = tt
@@ -59,3 +60,13 @@ pub made_is : (v w : Shown) (n : ℕ) (x : Value) (block : List (List Feature)) 
 made_is v w n x block root nodes arcs third y s b made is t e =
     subst (λ z. IsUnifier v.structure (Node n) [] v.structure x w.structure z) (sym (e ∙ (ap (λ z. ref_of z third root) is ∙ (ap (λ k. ref_of (with_block v block) k root) t ∙ ref_same v s block b made.old root made.fits.1))))
     (subst (λ z. IsUnifier v.structure (Node n) [] v.structure x z.structure (ref_of v (length v.sizes) root)) (sym is) made.unifier)
+
+-- and of the two blocks
+pub blocks_unified : (v w u t : Shown) (left right : List (List Feature)) (first second l : ℕ) (r : Ref) (x : Value) (block : List (List Feature)) (root : Ref) (nodes arcs third : ℕ) (y : Value)
+    → IsShown v → IsShown w → IsShown u → IsRooted left (ref.New l) → IsRooted right r → w ≡ with_block v left → u ≡ with_block w right → first ≡ length v.sizes → second ≡ length w.sizes → x ≡ ref_of u second r
+    → IsBlock block → IsMade u (number_of u first l) [] x block root nodes arcs → t ≡ with_block u block → third ≡ length u.sizes → y ≡ ref_of t third root
+    → IsUnifier (own_nodes left) (Node l) [] (own_nodes right) (own_value r) t.structure y
+blocks_unified v w u t left right first second l r x block root nodes arcs third y s s1 s2 own ownr is is1 f g e b made is2 h k =
+    let n = number_of u first l in
+    let both = sides v w u left right first second l r x s s1 own ownr is is1 f g e in
+    same_unifier u.structure (Node n) u.structure x (own_nodes left) (Node l) (own_nodes right) (own_value r) both.0 both.1 t.structure y (made_is u t n x block root nodes arcs third y s2 b made is2 h k)

@@ -2,7 +2,7 @@
 --     HasBlock v b nodes     the block with this number has these nodes
 --     IsRuleStored           an item of a rule's variant, with its least value in a block of its own
 --     AreKept good bad       of each variant an item is kept, or it has no solution
-use Rattle.std.specs.Prelude.{◌≡◌, ◌⊎◌, ℕ, suc, List, [], ◌∷◌, ◌++◌, map, length, slice_get, Some}
+use Rattle.std.specs.Prelude.{◌≡◌, ◌⊎◌, ◌+◌, ◌≤◌, ℕ, suc, List, [], ◌∷◌, ◌++◌, map, length, slice_get, Some}
 use Rattle.std.specs.List.{sum_by}
 use Rattle.patr_model.specs.Derivation.{RuleVariant}
 use Rattle.patr_arena.specs.declared.value.Feature.{Feature}
@@ -10,7 +10,7 @@ use Rattle.patr_arena.specs.Shown.{Shown, IsShown}
 use Rattle.patr_arena.specs.Blocks.{Extends, with_block}
 use Rattle.patr_library.specs.declared.item.RuleItem.{RuleItem}
 use Rattle.patr_model.specs.Variants.{AreWithin}
-use Rattle.patr_expand.specs.declared.rule.RuleVariant as code
+use Rattle.patr_expand.specs.declared.variant.RuleVariant as code
 use Rattle.patr_model.specs.Grammar.{rule_variants}
 use Rattle.patr_model.specs.Build.{rule_of}
 use Rattle.patr_grammar.specs.declared.grammar.RuleText.{RuleText}
@@ -53,6 +53,8 @@ IsDealt {I = I} good bad v w d old new =
 -- these things more were dealt with
 pub record AreDealt {D I : Type 0} (good : Shown → D → I → Type 0) (bad : D → Type 0) (v w : Shown) (ds : List D) (old new : List I) : Type 0 where
   pub extends : Extends v w
+  -- each item more has a block of its own
+  pub blocks : length new + length v.sizes ≤ length old + length w.sizes
   pub kept : (done : List D) → AreKept (good v) bad done old → AreKept (good w) bad (done ++ ds) new
 
 -- a variant of a rule with both numbers

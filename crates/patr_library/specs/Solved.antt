@@ -1,12 +1,17 @@
 -- Least values of equations over slots, in blocks of their own.
-use Rattle.std.specs.Prelude.{◌≡◌, ℕ, zero, suc, List, [], ◌∷◌, length}
-use Rattle.patr_model.specs.Structure.{Value, Node, Structure, IsValue, IsStructure}
+use Rattle.std.specs.Prelude.{◌≡◌, ℕ, zero, suc, List, [], ◌∷◌, length, Some}
+use Rattle.patr_model.specs.Structure.{Value, Node, Structure, IsValue, IsStructure, arc}
 use Rattle.patr_model.specs.Subsumption.{TakesBoth, IsUnifier, Same}
 use Rattle.patr_model.specs.Equation.{Equation}
 use Rattle.patr_model.specs.Variants.{variant, RuleAt, IsLeastOf}
 use Rattle.patr_arena.specs.declared.value.Ref.{Ref}
 use Rattle.patr_arena.specs.declared.value.Ref.TheVariants as ref
 use Rattle.patr_arena.specs.declared.value.Feature.{Feature}
+use Rattle.patr_arena.specs.declared.value.Addr.{Addr}
+use Rattle.patr_arena.specs.declared.value.Value as its
+use Rattle.patr_arena.specs.Shown.{Shown, number_of, value_of}
+use Rattle.patr_unify.specs.declared.build.Made.{Made}
+use Rattle.patr_unify.specs.Copying.{IsMade}
 use Rattle.patr_library.specs.Own.{own_nodes, own_value, IsRooted}
 
 -- the arcs of a node of slots, from slot k on
@@ -19,6 +24,15 @@ pub record IsLeastAt (slots : ℕ) (es : List Equation) (nodes : List (List Feat
   pub rooted : IsRooted nodes (ref.New root)
   pub least : (cs : List ℕ) → length cs ≡ slots → IsLeastOf (RuleAt (variant cs es)) (own_nodes nodes) (Node root)
 
+-- the node of the block has a first slot
+abbrev pub HasSlot : List (List Feature) → ℕ → Type 0
+HasSlot nodes root = (x : Value) × (arc (own_nodes nodes) (Node root) 0 ≡ Some x)
+
+-- it is a node of its block
+abbrev pub IsNew : Ref → Type 0
+IsNew (ref.New k) = Unit {0}
+IsNew _ = ⊥
+
 -- the equations hold at no slots
 abbrev pub HasNone : ℕ → List Equation → Type 0
 HasNone slots es = (cs : List ℕ) → length cs ≡ slots → (G : Structure) (v : Value) → IsStructure G → IsValue G v → RuleAt (variant cs es) G v → ⊥
@@ -30,6 +44,14 @@ pub record IsUnified (left : List (List Feature)) (l : ℕ) (right : List (List 
   pub at : Value
   pub unifier : IsUnifier (own_nodes left) (Node l) [] (own_nodes right) (own_value r) whole at
   pub same : Same whole at (own_nodes nodes) (Node root)
+
+-- what unification made of a node and a value that stand in one arena
+abbrev pub IsMadeOf : Shown → Addr → its.Value → Made → Type 0
+IsMadeOf v left right m = IsMade v (number_of v left.block left.offset) [] (value_of v right) m.block m.root m.nodes m.arcs
+
+-- no structure takes both, which stand in one arena
+abbrev pub HaveNoUnifier : Shown → Addr → its.Value → Type 0
+HaveNoUnifier v left right = (G : Structure) (y : Value) → TakesBoth v.structure (Node (number_of v left.block left.offset)) [] v.structure (value_of v right) G y → ⊥
 
 -- no structure takes both
 abbrev pub TakeNone : List (List Feature) → ℕ → List (List Feature) → Ref → Type 0

@@ -61,7 +61,7 @@ rules_of s = built_rules s.grammar s.lexicon
 
 -- ---- items
 
--- no fewer nodes and arcs are reached from a value than it says
+-- no more nodes and arcs are reached from a value than it says
 abbrev pub Bounds : Shown → Value → ℕ → ℕ → Type 0
 Bounds v x nodes arcs = (n a : ℕ) → Counts v.structure x n a → (n ≤ nodes) × (a ≤ arcs)
 
@@ -115,6 +115,10 @@ word_at l e = go (slice_get l e)
     go : Option Entry → Option ℕ
     go None = None
     go (Some x) = Some x.word.0
+
+-- each item is one of the first so many entries
+abbrev pub AreOfEntries : ℕ → List EntryItem → Type 0
+AreOfEntries n items = AllByRecursion (λ i. i.entry < n) items
 
 -- both are one number
 abbrev pub is_number : Option ℕ → ℕ → Bool

@@ -18,9 +18,7 @@ use patr_expand::{ExpandCause, RuleVariant, expand_rule};
 use patr_grammar::Grammar;
 use patr_scratch::Scratch;
 use patr_text::Fault;
-use patr_unify::Steps;
 use std::alloc::{AllocError, Global};
-use std::sync::ledger::Ledger;
 
 /// Where a block's value stands, and how many nodes and arcs the block has.
 #[derive(Clone, Copy)]
@@ -63,26 +61,19 @@ pub(crate) fn store(arena: &mut PlainArena, least: Least) -> Result<Placement, M
 }
 
 /// Keeps an item of a rule's variant, where it has a solution.
-fn keep_rule<L: Ledger>(
+fn keep_rule(
     alloc: Global,
     variant: &RuleVariant,
     arena: &mut PlainArena,
     items: &mut Vec<RuleItem>,
     scratch: &mut Scratch,
-    steps: &mut Steps<L>,
 ) -> Result<(), Memory>
     requires { AreWithin (length variant.now.symbols.items) (equations_at variant.now.equations.items) }
     ensures { IfOk result (λ _. IsRuleDealt (shown_of arena.old) (shown_of arena.new) variant.now.rule variant.now.variant (variant_at variant.now) items.old.items items.new.items) }
 {
-    let Some(mother) = variant.symbols.first() else {
-        return Err(AllocError);
-    };
-    let count = variant.symbols.len();
-    if count > u32::MAX as usize {
-        return Err(AllocError);
-    }
-    let found = solved(alloc, count as u32, &variant.equations, scratch, steps)?;
-    let Some(least) = found else {
+    let mother = variant.symbols[0];
+    let count = variant.symbols.len() as u32;
+    let Some(least) = solved(alloc, count, &variant.equations, scratch)? else {
         return Ok(());
     };
     let made = store(arena, least)?;
@@ -90,7 +81,7 @@ fn keep_rule<L: Ledger>(
         rule: variant.rule,
         variant: variant.variant,
         mother: mother.category,
-        slots: count as u32 - 1,
+        slots: count - 1,
         root: made.root,
         nodes: made.nodes,
         arcs: made.arcs,
@@ -99,32 +90,30 @@ fn keep_rule<L: Ledger>(
 }
 
 /// Keeps the items of a rule's variants that have a solution.
-fn keep_variants<L: Ledger>(
+fn keep_variants(
     alloc: Global,
     variants: &[RuleVariant],
     arena: &mut PlainArena,
     items: &mut Vec<RuleItem>,
     scratch: &mut Scratch,
-    steps: &mut Steps<L>,
 ) -> Result<(), Memory>
     requires { AllByRecursion StaysWithin variants.now }
     ensures { IfOk result (λ _. AreRulesDealt (shown_of arena.old) (shown_of arena.new) (numbered variants.now) items.old.items items.new.items) }
 {
     for variant in variants {
-        keep_rule(alloc, variant, arena, items, scratch, steps)?;
+        keep_rule(alloc, variant, arena, items, scratch)?;
     }
     Ok(())
 }
 
 /// Keeps the items of one rule.
-fn keep_one<L: Ledger>(
+fn keep_one(
     alloc: Global,
     grammar: &Grammar,
     rule: u32,
     arena: &mut PlainArena,
     items: &mut Vec<RuleItem>,
     scratch: &mut Scratch,
-    steps: &mut Steps<L>,
 ) -> Result<(), Fault<ExpandCause>>
     requires { rule < length grammar.now.rules.items }
     ensures dealt { (r : RuleText) → slice_get grammar.now.rules.items rule ≡ Some r → IfOk result (λ _. AreRulesDealt (shown_of arena.old) (shown_of arena.new) (numbered_from rule 0 (variants_of r)) items.old.items items.new.items) }
@@ -132,28 +121,24 @@ fn keep_one<L: Ledger>(
     ensures refused { (r : RuleText) → slice_get grammar.now.rules.items rule ≡ Some r → IfErr result (λ fault. IsRefusedBy (rule_fault (rule_seen r)) fault) }
 {
     let variants = expand_rule(alloc, grammar, rule)?;
-    keep_variants(alloc, &variants, arena, items, scratch, steps)?;
+    keep_variants(alloc, &variants, arena, items, scratch)?;
     Ok(())
 }
 
 /// Keeps the items of all rules.
-pub(crate) fn keep_rules<L: Ledger>(
+pub(crate) fn keep_rules(
     alloc: Global,
     grammar: &Grammar,
     arena: &mut PlainArena,
     items: &mut Vec<RuleItem>,
     scratch: &mut Scratch,
-    steps: &mut Steps<L>,
 ) -> Result<(), Fault<ExpandCause>>
     ensures dealt { IfOk result (λ _. AreRulesDealt (shown_of arena.old) (shown_of arena.new) (all_numbered 0 (map variants_of grammar.now.rules.items)) items.old.items items.new.items) }
     ensures faultless { IfOk result (λ _. rules_fault (map rule_seen grammar.now.rules.items) ≡ None) }
     ensures refused { IfErr result (λ fault. IsRefusedBy (rules_fault (map rule_seen grammar.now.rules.items)) fault) }
 {
-    if grammar.rules.len() > u32::MAX as usize {
-        return Err(Fault::Memory);
-    }
     for rule in 0..grammar.rules.len() {
-        keep_one(alloc, grammar, rule as u32, arena, items, scratch, steps)?;
+        keep_one(alloc, grammar, rule as u32, arena, items, scratch)?;
     }
     Ok(())
 }

@@ -1,13 +1,12 @@
 //! The nodes that a value reaches, copied into one block.
-ghost use Rattle.std.specs.Prelude.{◌≡◌, ◌+◌, IfOk, OnOk, length};
+ghost use Rattle.std.specs.Prelude.{◌≡◌, true, IfOk, OnOk, length};
 ghost use Rattle.std.specs.List.Sorted.{IsStrictlyIncreasing};
-ghost use Rattle.patr_model.specs.Structure.{Node, arcs_of};
 ghost use Rattle.patr_model.specs.Subsumption.{Same};
 ghost use Rattle.patr_arena.specs.Arenas.{shown_of};
 ghost use Rattle.patr_arena.specs.Blocks.{attributes, with_block, IsBlock, OldIsHeld};
 ghost use Rattle.patr_arena.specs.Shown.{IsHeld, ValueIsHeld, number_of, value_of};
 ghost use Rattle.patr_library.specs.Own.{AllOwn, ArePlaces, IsOwnBlock, IsRooted, own_nodes, own_value};
-ghost use Rattle.patr_library.specs.Copies.{AreCopies, AreImages, IsImage, image_at};
+ghost use Rattle.patr_library.specs.Copies.{AreCopies, AreImages, AreReached, HasCopy, HaveCopies, IsImage, IsNextImage, arcs_at, image_at, with_mark, with_marks};
 
 use crate::stating::{Rooted, top};
 use patr_arena::{Addr, Block, Feature, Memory, Nodes, PlainArena, Ref, Value};
@@ -39,24 +38,25 @@ pub(crate) fn push(
     Ok(number)
 }
 
-/// Says that a node is reached.
-fn mark(reached: &mut Vec<bool>, to: u64)
-    ensures { length reached.new.items ≡ length reached.old.items }
+/// Says that a value is reached.
+fn mark(arena: &PlainArena, reached: &mut Vec<bool>, to: Value)
+    requires held { ValueIsHeld (shown_of arena.now) to }
+    requires long { length reached.old.items ≡ length (shown_of arena.now).structure }
+    ensures { reached.new.items ≡ with_mark reached.old.items (value_of (shown_of arena.now) to) }
 {
-    if let Some(mark) = reached.get_mut(to as usize) {
-        *mark = true;
+    if let Value::Node(at) = to {
+        reached[arena.number(at) as usize] = true;
     }
 }
 
-/// Says that the nodes to which a node's arcs lead are reached.
+/// Says that what a node's arcs lead to is reached.
 fn mark_targets(arena: &PlainArena, at: Addr, reached: &mut Vec<bool>)
-    requires { IsHeld (shown_of arena.now) at.block at.offset }
-    ensures { length reached.new.items ≡ length reached.old.items }
+    requires at { IsHeld (shown_of arena.now) at.block at.offset }
+    requires long { length reached.old.items ≡ length (shown_of arena.now).structure }
+    ensures { reached.new.items ≡ with_marks reached.old.items (arcs_at (shown_of arena.now) at) }
 {
     for arc in arena.arcs(at) {
-        if let Value::Node(to) = arena.resolve(at.block, arc.to) {
-            mark(reached, arena.number(to));
-        }
+        mark(arena, reached, arena.resolve(at.block, arc.to));
     }
 }
 
@@ -70,12 +70,11 @@ fn reached_from(
 ) -> Result<Vec<bool>, Memory>
     requires places { ArePlaces (shown_of arena.now) places.now }
     requires from { ValueIsHeld (shown_of arena.now) from }
-    ensures { IfOk result (λ reached. length reached.items ≡ length places.now) }
+    ensures long { IfOk result (λ reached. length reached.items ≡ length places.now) }
+    ensures exact { IfOk result (λ reached. AreReached (shown_of arena.now).structure (value_of (shown_of arena.now) from) reached.items) }
 {
     let mut reached = Vec::from_elem(alloc, false, places.len())?;
-    if let Value::Node(at) = from {
-        mark(&mut reached, arena.number(at));
-    }
+    mark(arena, &mut reached, from);
     let mut left = places.len();
     while left > 0 {
         left -= 1;
@@ -87,15 +86,16 @@ fn reached_from(
 }
 
 /// The arc to a value's copy.
-fn image_of(arena: &PlainArena, images: &[Option<u32>], to: Value) -> Result<Ref, Memory>
-    requires { ValueIsHeld (shown_of arena.now) to }
-    ensures { IfOk result (λ image. IsImage (image_at images.now) (value_of (shown_of arena.now) to) image) }
+fn image_of(arena: &PlainArena, images: &[Option<u32>], to: Value) -> Ref
+    requires held { ValueIsHeld (shown_of arena.now) to }
+    requires copied { HasCopy (image_at images.now) (value_of (shown_of arena.now) to) }
+    ensures { IsImage (image_at images.now) (value_of (shown_of arena.now) to) result }
 {
     match to {
-        Value::Atom(atom) => Ok(Ref::Atom(atom)),
-        Value::Node(at) => match images.get(arena.number(at) as usize) {
-            Some(Some(offset)) => Ok(Ref::New(*offset)),
-            _ => Err(AllocError),
+        Value::Atom(atom) => Ref::Atom(atom),
+        Value::Node(at) => match images[arena.number(at) as usize] {
+            Some(offset) => Ref::New(offset),
+            None => unreachable!(),
         },
     }
 }
@@ -107,12 +107,13 @@ fn copied_arcs(
     images: &[Option<u32>],
     at: Addr,
 ) -> Result<Vec<Feature>, Memory>
-    requires { IsHeld (shown_of arena.now) at.block at.offset }
-    ensures { IfOk result (λ arcs. AreCopies (image_at images.now) (arcs_of (shown_of arena.now).structure (Node (number_of (shown_of arena.now) at.block at.offset))) arcs.items) }
+    requires at { IsHeld (shown_of arena.now) at.block at.offset }
+    requires copied { HaveCopies (image_at images.now) (arcs_at (shown_of arena.now) at) }
+    ensures { IfOk result (λ arcs. AreCopies (image_at images.now) (arcs_at (shown_of arena.now) at) arcs.items) }
 {
     let mut arcs = Vec::new(alloc);
     for arc in arena.arcs(at) {
-        let to = image_of(arena, images, arena.resolve(at.block, arc.to))?;
+        let to = image_of(arena, images, arena.resolve(at.block, arc.to));
         arcs.push(Feature {
             attribute: arc.attribute,
             to,
@@ -133,7 +134,8 @@ fn copy_next(
     requires at { IsHeld (shown_of arena.now) at.block at.offset }
     requires next { number_of (shown_of arena.now) at.block at.offset ≡ length images.old.items }
     requires images { AreImages (shown_of arena.now).structure images.old.items block.old }
-    ensures long { OnOk result (length images.new.items ≡ length images.old.items + 1) }
+    requires copied { reached ≡ true → HaveCopies (image_at images.old.items) (arcs_at (shown_of arena.now) at) }
+    ensures more { OnOk result (IsNextImage reached images.old.items images.new.items) }
     ensures images { OnOk result (AreImages (shown_of arena.now).structure images.new.items block.new) }
 {
     if !reached {
@@ -164,6 +166,6 @@ pub(crate) fn compact(
     for (place, at) in places.iter().enumerate() {
         copy_next(alloc, arena, *at, reached[place], &mut images, &mut block)?;
     }
-    let root = image_of(arena, &images, from)?;
+    let root = image_of(arena, &images, from);
     Ok(Rooted { block, root })
 }

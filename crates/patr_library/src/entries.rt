@@ -1,5 +1,5 @@
 //! The items of entries.
-ghost use Rattle.std.specs.Prelude.{◌≡◌, ◌<◌, ◌++◌, ◌∷◌, [], None, Some, IfErr, IfOk, length, map};
+ghost use Rattle.std.specs.Prelude.{◌≡◌, ◌<◌, ◌≤◌, ◌^◌, ◌++◌, ◌∷◌, [], None, Some, IfErr, IfOk, length, map};
 ghost use Rattle.std.specs.List.{AllByRecursion};
 ghost use Rattle.patr_model.specs.Derivation.{EntryVariant};
 ghost use Rattle.patr_model.specs.Structure.{Node, arc};
@@ -10,6 +10,7 @@ ghost use Rattle.patr_lexicon.specs.Seen.{entry_seen};
 ghost use Rattle.patr_arena.specs.Arenas.{shown_of};
 ghost use Rattle.patr_expand.specs.Seen.{IsRefusedBy, equations_at, lists_at, number};
 ghost use Rattle.patr_library.specs.Own.{IsOwn, IsOwnBlock, own_nodes, own_value};
+ghost use Rattle.patr_library.specs.Solved.{HasSlot};
 ghost use Rattle.patr_library.specs.Stored.{keys};
 ghost use Rattle.patr_library.specs.Built.{all_numbered, numbered_from};
 ghost use Rattle.patr_library.specs.Entries.{AreEntriesDealt, IsEntryDealt, StaysAlone, entry_variants_of, variant_of};
@@ -23,9 +24,7 @@ use patr_grammar::Grammar;
 use patr_lexicon::{Entry, Lexicon};
 use patr_scratch::Scratch;
 use patr_text::{Fault, Id};
-use patr_unify::Steps;
-use std::alloc::{AllocError, Global};
-use std::sync::ledger::Ledger;
+use std::alloc::Global;
 
 /// The number of the attribute `cat`.
 const CAT: Id = Id(33);
@@ -68,23 +67,18 @@ fn facts(alloc: Global, entry: &Entry) -> Result<Vec<Equation>, Memory>
 }
 
 /// What the node of one slot has in it.
-fn slot_value(block: &Block, root: u32) -> Result<Ref, Memory>
+fn slot_value(block: &Block, root: u32) -> Ref
     requires own { IsOwnBlock block.now }
     requires root { root < length block.now }
-    ensures arc { IfOk result (λ to. arc (own_nodes block.now) (Node root) 0 ≡ Some (own_value to)) }
-    ensures own { IfOk result (λ to. IsOwn (length block.now) to) }
+    requires slot { HasSlot block.now root }
+    ensures arc { arc (own_nodes block.now) (Node root) 0 ≡ Some (own_value result) }
+    ensures own { IsOwn (length block.now) result }
 {
-    let Some(first) = block.arcs(root).first() else {
-        return Err(AllocError);
-    };
-    if first.attribute.0 != 0 {
-        return Err(AllocError);
-    }
-    Ok(first.to)
+    block.arcs(root)[0].to
 }
 
 /// Keeps an item of an entry's variant, where it has a solution.
-fn keep_entry<L: Ledger>(
+fn keep_entry(
     alloc: Global,
     entry: u32,
     variant: u32,
@@ -92,15 +86,14 @@ fn keep_entry<L: Ledger>(
     arena: &mut PlainArena,
     items: &mut Vec<EntryItem>,
     scratch: &mut Scratch,
-    steps: &mut Steps<L>,
 ) -> Result<(), Memory>
     requires { AreWithin 1 (equations_at equations.now) }
     ensures { (x : EntryVariant) → x.equations ≡ equations_at equations.now → IfOk result (λ _. IsEntryDealt (shown_of arena.old) (shown_of arena.new) entry variant x items.old.items items.new.items) }
 {
-    let Some(least) = solved(alloc, 1, equations, scratch, steps)? else {
+    let Some(least) = solved(alloc, 1, equations, scratch)? else {
         return Ok(());
     };
-    let to = slot_value(&least.block, least.root)?;
+    let to = slot_value(&least.block, least.root);
     let made = store(arena, least)?;
     let root = arena.resolve(made.root.block, to);
     items.push(EntryItem {
@@ -114,7 +107,7 @@ fn keep_entry<L: Ledger>(
 }
 
 /// Keeps an item of the entry's variant with these equations of its features, where it has a solution.
-fn keep_variant<L: Ledger>(
+fn keep_variant(
     alloc: Global,
     entry: &Entry,
     number: u32,
@@ -123,7 +116,6 @@ fn keep_variant<L: Ledger>(
     arena: &mut PlainArena,
     items: &mut Vec<EntryItem>,
     scratch: &mut Scratch,
-    steps: &mut Steps<L>,
 ) -> Result<(), Memory>
     requires { StaysAlone entry.now features }
     ensures { IfOk result (λ _. IsEntryDealt (shown_of arena.old) (shown_of arena.new) number variant (variant_of entry.now features) items.old.items items.new.items) }
@@ -131,14 +123,12 @@ fn keep_variant<L: Ledger>(
     let mut features = features;
     let mut equations = facts(alloc, entry)?;
     equations.append(&mut features)?;
-    keep_entry(
-        alloc, number, variant, &equations, arena, items, scratch, steps,
-    )?;
+    keep_entry(alloc, number, variant, &equations, arena, items, scratch)?;
     Ok(())
 }
 
 /// Keeps the items of an entry's variants that have a solution.
-fn keep_variants<L: Ledger>(
+fn keep_variants(
     alloc: Global,
     entry: &Entry,
     number: u32,
@@ -146,23 +136,23 @@ fn keep_variants<L: Ledger>(
     arena: &mut PlainArena,
     items: &mut Vec<EntryItem>,
     scratch: &mut Scratch,
-    steps: &mut Steps<L>,
 ) -> Result<(), Memory>
-    requires { AllByRecursion (StaysAlone entry.now) variants.items }
+    requires few { length variants.items ≤ 256 }
+    requires alone { AllByRecursion (StaysAlone entry.now) variants.items }
     ensures { IfOk result (λ _. AreEntriesDealt (shown_of arena.old) (shown_of arena.new) (numbered_from number 0 (map (variant_of entry.now) variants.items)) items.old.items items.new.items) }
 {
     let mut variant: u32 = 0;
     for features in variants {
         keep_variant(
-            alloc, entry, number, variant, features, arena, items, scratch, steps,
+            alloc, entry, number, variant, features, arena, items, scratch,
         )?;
-        variant = variant.checked_add(1).ok_or(AllocError)?;
+        variant += 1;
     }
     Ok(())
 }
 
 /// Keeps the items of one entry.
-fn keep_one<L: Ledger>(
+fn keep_one(
     alloc: Global,
     grammar: &Grammar,
     entry: &Entry,
@@ -170,45 +160,32 @@ fn keep_one<L: Ledger>(
     arena: &mut PlainArena,
     items: &mut Vec<EntryItem>,
     scratch: &mut Scratch,
-    steps: &mut Steps<L>,
 ) -> Result<(), Fault<ExpandCause>>
     ensures dealt { IfOk result (λ _. AreEntriesDealt (shown_of arena.old) (shown_of arena.new) (numbered_from number 0 (entry_variants_of entry.now)) items.old.items items.new.items) }
     ensures faultless { IfOk result (λ _. entry_fault (entry_seen entry.now) ≡ None) }
     ensures refused { IfErr result (λ fault. IsRefusedBy (entry_fault (entry_seen entry.now)) fault) }
 {
     let variants = expand_features(alloc, grammar, &entry.features, entry.line)?;
-    keep_variants(alloc, entry, number, variants, arena, items, scratch, steps)?;
+    keep_variants(alloc, entry, number, variants, arena, items, scratch)?;
     Ok(())
 }
 
 /// Keeps the items of all entries.
-pub(crate) fn keep_entries<L: Ledger>(
+pub(crate) fn keep_entries(
     alloc: Global,
     grammar: &Grammar,
     entries: &[Entry],
     arena: &mut PlainArena,
     items: &mut Vec<EntryItem>,
     scratch: &mut Scratch,
-    steps: &mut Steps<L>,
 ) -> Result<(), Fault<ExpandCause>>
+    requires { length entries.now < 2 ^ 32 }
     ensures dealt { IfOk result (λ _. AreEntriesDealt (shown_of arena.old) (shown_of arena.new) (all_numbered 0 (map entry_variants_of entries.now)) items.old.items items.new.items) }
     ensures faultless { IfOk result (λ _. entries_fault (map entry_seen entries.now) ≡ None) }
     ensures refused { IfErr result (λ fault. IsRefusedBy (entries_fault (map entry_seen entries.now)) fault) }
 {
-    if entries.len() > u32::MAX as usize {
-        return Err(Fault::Memory);
-    }
     for (number, entry) in entries.iter().enumerate() {
-        keep_one(
-            alloc,
-            grammar,
-            entry,
-            number as u32,
-            arena,
-            items,
-            scratch,
-            steps,
-        )?;
+        keep_one(alloc, grammar, entry, number as u32, arena, items, scratch)?;
     }
     Ok(())
 }

@@ -19,7 +19,7 @@ pub struct RuleItem {
     pub slots: u32,
     /// The node of the slots: its arc of the attribute k leads to slot k, the mother's value being slot 0.
     pub root: Addr,
-    /// At least as many nodes are reached from the root, and so many arcs do they have.
+    /// No more nodes are reached from the root, and no more arcs do these have.
     pub nodes: u64,
     pub arcs: u64,
 }
@@ -32,7 +32,7 @@ pub struct EntryItem {
     pub variant: u32,
     /// The entry's value.
     pub root: Value,
-    /// At least as many nodes are reached from the root, and so many arcs do they have.
+    /// No more nodes are reached from the root, and no more arcs do these have.
     pub nodes: u64,
     pub arcs: u64,
 }

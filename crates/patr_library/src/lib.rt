@@ -16,3 +16,6 @@ pub use library::Library;
 
 /// Want of memory.
 pub type Memory = std::alloc::AllocError;
+
+#[cfg(test)]
+mod tests;

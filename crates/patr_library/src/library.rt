@@ -12,8 +12,7 @@ use patr_grammar::Grammar;
 use patr_lexicon::Lexicon;
 use patr_text::Id;
 use std::alloc::Global;
-use std::marker::{Brand, Model};
-use std::sync::ledger::Blank;
+use std::marker::Model;
 
 /// A grammar and a lexicon, and the variants of their rules and entries that have a solution, each with its least value.
 #[derive(Drop)]
@@ -46,7 +45,7 @@ impl Library {
         ensures built { IfOk result (λ library. IsBuiltFrom grammar lexicon library) }
         ensures refused { IfErr result (λ fault. IsRefusedFor grammar lexicon fault) }
     {
-        let items = all_items::<Brand>(alloc, &grammar, lexicon.entries(), Blank::new(1))?;
+        let items = all_items(alloc, &grammar, lexicon.entries())?;
         let by_mother = index_of(alloc, &mothers(alloc, &items.rules)?)?;
         let by_word = index_of(alloc, &words(alloc, lexicon.entries(), &items.entries)?)?;
         Ok(Library {

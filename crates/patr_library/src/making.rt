@@ -1,5 +1,5 @@
 //! The items of a grammar and a lexicon.
-ghost use Rattle.std.specs.Prelude.{◌≡◌, ◌<◌, ℕ, List, None, Some, IfErr, IfOk, map};
+ghost use Rattle.std.specs.Prelude.{◌≡◌, ◌<◌, ◌^◌, ℕ, List, None, Some, IfErr, IfOk, length, map};
 ghost use Rattle.patr_model.specs.Build.{build_fault, entries_fault, rules_fault};
 ghost use Rattle.patr_grammar.specs.Reading.{rule_seen};
 ghost use Rattle.patr_grammar.specs.declared.grammar.Grammar as its;
@@ -7,21 +7,19 @@ ghost use Rattle.patr_lexicon.specs.declared.lexicon.Entry as an;
 ghost use Rattle.patr_lexicon.specs.Seen.{entry_seen};
 ghost use Rattle.patr_arena.specs.Arenas.{shown_of};
 ghost use Rattle.patr_expand.specs.Seen.{IsRefusedBy};
-ghost use Rattle.patr_library.specs.Stored.{HasItems, IsRefusedFor, built_rules, entries_of, grammar_of, word_at};
+ghost use Rattle.patr_library.specs.Stored.{AreOfEntries, HasItems, IsRefusedFor, built_rules, entries_of, grammar_of, word_at};
 
 use crate::Memory;
 use crate::building::keep_rules;
 use crate::entries::keep_entries;
 use crate::item::{BuildFault, EntryItem, RuleItem};
-use patr_arena::PlainArena;
+use patr_arena::{Nodes, PlainArena};
 use patr_expand::ExpandCause;
 use patr_grammar::Grammar;
 use patr_lexicon::Entry;
 use patr_scratch::Scratch;
 use patr_text::{Fault, Id};
-use patr_unify::Steps;
-use std::alloc::{AllocError, Global};
-use std::sync::ledger::{Blank, Ledger};
+use std::alloc::Global;
 
 /// The nodes of all roots, and the items.
 #[derive(Drop)]
@@ -52,32 +50,22 @@ fn in_lexicon(fault: Fault<ExpandCause>) -> BuildFault
 }
 
 /// The items of all rules and entries.
-pub(crate) fn all_items<L: Ledger>(
+pub(crate) fn all_items(
     alloc: Global,
     grammar: &Grammar,
     lexicon: &[Entry],
-    blank: Blank,
 ) -> Result<Items, BuildFault>
-    requires name { blank.name ≡ L.name }
-    requires parts { blank.parts ≡ L.parts }
-    requires some { 0 < blank.parts }
+    requires { length lexicon.now < 2 ^ 32 }
     ensures items { IfOk result (λ made. HasItems (built_rules grammar.now lexicon.now) (shown_of made.arena) made.rules.items made.entries.items) }
     ensures faultless { IfOk result (λ _. build_fault (grammar_of grammar.now) (entries_of lexicon.now) ≡ None) }
     ensures refused { IfErr result (λ fault. IsRefusedFor grammar.now lexicon.now fault) }
+    ensures few { IfOk result (λ made. (length made.rules.items < 2 ^ 32) × (length made.entries.items < 2 ^ 32)) }
 {
-    let mut steps = Steps::<L>::new(blank);
     let mut scratch = Scratch::new(alloc);
     let mut arena = PlainArena::new(alloc);
     let mut rules = Vec::new(alloc);
     let mut entries = Vec::new(alloc);
-    if let Err(fault) = keep_rules(
-        alloc,
-        grammar,
-        &mut arena,
-        &mut rules,
-        &mut scratch,
-        &mut steps,
-    ) {
+    if let Err(fault) = keep_rules(alloc, grammar, &mut arena, &mut rules, &mut scratch) {
         return Err(in_grammar(fault));
     }
     if let Err(fault) = keep_entries(
@@ -87,10 +75,11 @@ pub(crate) fn all_items<L: Ledger>(
         &mut arena,
         &mut entries,
         &mut scratch,
-        &mut steps,
     ) {
         return Err(in_lexicon(fault));
     }
+    // Each item has a block of its own, and of these an arena has fewer than 2^32.
+    arena.blocks();
     Ok(Items {
         arena,
         rules,
@@ -110,14 +99,11 @@ pub(crate) fn mothers(alloc: Global, rules: &[RuleItem]) -> Result<Vec<Id>, Memo
 }
 
 /// The word of an item's entry.
-fn word_of(lexicon: &[Entry], item: &EntryItem) -> Result<Id, Memory>
-    ensures { IfOk result (λ word. word_at lexicon.now item.now.entry ≡ Some word.0) }
+fn word_of(lexicon: &[Entry], item: &EntryItem) -> Id
+    requires { item.now.entry < length lexicon.now }
+    ensures { word_at lexicon.now item.now.entry ≡ Some result.0 }
 {
-    let place = item.entry as usize;
-    if place >= lexicon.len() {
-        return Err(AllocError);
-    }
-    Ok(lexicon[place].word)
+    lexicon[item.entry as usize].word
 }
 
 /// The words of the items' entries.
@@ -126,12 +112,12 @@ pub(crate) fn words(
     lexicon: &[Entry],
     entries: &[EntryItem],
 ) -> Result<Vec<Id>, Memory>
+    requires { AreOfEntries (length lexicon.now) entries.now }
     ensures { IfOk result (λ keys. map (λ key. Some key.0) keys.items ≡ map (λ i. word_at lexicon.now i.entry) entries.now) }
 {
     let mut keys = Vec::new(alloc);
     for item in entries {
-        let word = word_of(lexicon, item)?;
-        keys.push(word)?;
+        keys.push(word_of(lexicon, item))?;
     }
     Ok(keys)
 }

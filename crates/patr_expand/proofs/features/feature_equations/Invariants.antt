@@ -1,9 +1,7 @@
-use Rattle.std.proofs.Common.{◌≡◌, ◌++◌, [], ◌∷◌, drop, map, filter_map, length, ◌+◌, ◌<◌}
-use Rattle.std.specs.Option.{option_map}
+use Rattle.std.proofs.Common.{◌≡◌, ◌++◌, drop, map}
 use Rattle.patr_model.specs.Build as model
-use Rattle.patr_model.specs.Grammar as written
-use Rattle.patr_grammar.specs.Reading.{path_seen, term_seen, element_seen, item_seen, symbol_seen}
-use Rattle.patr_expand.specs.Seen.{number, cat, symbols_seen, path_at, term_at, equation_at, equations_at}
+use Rattle.patr_grammar.specs.Reading.{element_seen}
+use Rattle.patr_expand.specs.Seen.{number, equations_at}
 use Rattle.patr_expand.proofs.features.feature_equations.Given as goal
 
 abbrev pub invariant-loop-element : goal.invariant-loop-element

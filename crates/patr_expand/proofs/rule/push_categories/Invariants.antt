@@ -1,9 +1,6 @@
-use Rattle.std.proofs.Common.{◌≡◌, ◌++◌, [], ◌∷◌, drop, map, filter_map, length, ◌+◌, ◌<◌}
-use Rattle.std.specs.Option.{option_map}
-use Rattle.patr_model.specs.Build as model
+use Rattle.std.proofs.Common.{◌≡◌, ◌++◌, drop}
 use Rattle.patr_model.specs.Grammar as written
-use Rattle.patr_grammar.specs.Reading.{path_seen, term_seen, element_seen, item_seen, symbol_seen}
-use Rattle.patr_expand.specs.Seen.{number, cat, symbols_seen, path_at, term_at, equation_at, equations_at}
+use Rattle.patr_expand.specs.Seen.{cat, symbols_seen, equations_at}
 use Rattle.patr_expand.proofs.rule.push_categories.Given as goal
 
 abbrev pub invariant-loop-slot : goal.invariant-loop-slot

@@ -9,7 +9,7 @@ use Rattle.patr_model.specs.Faults.{StopsUtf8}
 use Rattle.patr_model.specs.Renaming.{Each}
 use Rattle.patr_model.specs.Tokens.{scan, start_place, tokens_of}
 use Rattle.patr_text.specs.declared.token.Token.{Token}
-use Rattle.patr_text.specs.Tokens.{seen}
+use Rattle.patr_text.specs.Tokens.{InOrder, seen}
 use Rattle.patr_grammar.specs.declared.lexeme.Lexeme.{Lexeme}
 use Rattle.patr_grammar.specs.Reading.{StandsFor, IsRefusedFor}
 use Rattle.patr_grammar.specs.Views.{IsSpelled, IsLexeme}
@@ -44,10 +44,24 @@ returns-clause-growth c =
     omega (arith, c.lexemes.ensures.growth, ap length c.in-Ok.ensures.cases.0, bytes_within_text c.in-Ok.text.now c.deref.result.now c.in-Ok-tokens.tokens.items c.deref.ensures.value c.in-Ok-tokens.ensures.order)
 
 -- the lexemes are the tokens of the text
+each_of : (table : List (List ℕ)) (text : List ℕ) (ts us : List Token) (ls ms : List Lexeme) → us ≡ ts → ms ≡ ls → Each (IsLexeme table) ls (map (seen text) us) → Each (IsLexeme table) ms (map (seen text) ts)
+each_of table text ts us ls ms same as_read h =
+    subst (λ (ks : List Lexeme). Each (IsLexeme table) ks (map (seen text) ts)) (sym as_read) (subst (λ (ks : List Token). Each (IsLexeme table) ls (map (seen text) ks)) same h)
+
+-- so there are no more than bytes
+few_of : (table : List (List ℕ)) (text : List ℕ) (ts : List Token) (ls : List Lexeme) → InOrder 0 (length text) ts → Each (IsLexeme table) ls (map (seen text) ts) → length ls ≤ length text
+few_of table text ts ls order h = omega (arith, each_length (IsLexeme table) ls (map (seen text) ts) h, length-map ts (seen text), count_in_order ts 0 (length text) (omega arith) order)
+
+pub read-requires-clause-lexemes : goal.read-requires-clause-lexemes
+read-requires-clause-lexemes c =
+    let text = c.in-Ok.text.now in
+    let ts = c.in-Ok-tokens.tokens.items in
+    let h = each_of c.lexemes.new.symbols text ts c.deref.result.now c.in_ok-lexemes.lexemes.items c.deref-2.result.now c.deref.ensures.value c.deref-2.ensures.value c.in_ok-lexemes.ensures.numbers in
+    omega (arith, c.requires, ap length c.in-Ok.ensures.cases.0, few_of c.lexemes.new.symbols text ts c.deref-2.result.now c.in-Ok-tokens.ensures.order h)
+
 each : (c : goal.After-drop-tokens-2) → Each (IsLexeme c.lexemes.new.symbols) c.deref-2.result.now (map (seen c.in-Ok.text.now) c.in-Ok-tokens.tokens.items)
 each c =
-    let K : List Lexeme → List Token → Type 0 = λ ls ts. Each (IsLexeme c.lexemes.new.symbols) ls (map (seen c.in-Ok.text.now) ts) in
-    subst (λ (ls : List Lexeme). K ls c.in-Ok-tokens.tokens.items) (sym c.deref-2.ensures.value) (subst (K c.in_ok-lexemes.lexemes.items) c.deref.ensures.value c.in_ok-lexemes.ensures.numbers)
+    each_of c.lexemes.new.symbols c.in-Ok.text.now c.in-Ok-tokens.tokens.items c.deref.result.now c.in_ok-lexemes.lexemes.items c.deref-2.result.now c.deref.ensures.value c.deref-2.ensures.value c.in_ok-lexemes.ensures.numbers
 
 scanned : (c : goal.After-drop-tokens-2) → tokens_of c.in-Ok.text.now ≡ Ok (map (seen c.in-Ok.text.now) c.in-Ok-tokens.tokens.items)
 scanned c = ap (λ (bytes : List ℕ). scan 0 0 start_place bytes) (sym (take-length c.in-Ok.text.now)) ∙ c.in-Ok-tokens.ensures.read
@@ -67,8 +81,5 @@ returns-clause-refused c = rw (← c.in-Ok.ensures.cases.0) (answered_of c).1
 
 pub returns-clause-few : goal.returns-clause-few
 returns-clause-few c =
-    let text = c.in-Ok.text.now in
-    let ts = c.in-Ok-tokens.tokens.items in
-    let same = each_length (IsLexeme c.lexemes.new.symbols) c.deref-2.result.now (map (seen text) ts) (each c) in
     IfOk-weaker c.read.result (λ g. length g.rules.items ≤ length c.deref-2.result.now) (λ g. length g.rules.items ≤ length c.args.bytes.now)
-    (λ g h. omega (arith, h, same, length-map ts (seen text), ap length c.in-Ok.ensures.cases.0, count_in_order ts 0 (length text) (omega arith) c.in-Ok-tokens.ensures.order)) c.read.ensures.few
+    (λ g h. omega (arith, h, ap length c.in-Ok.ensures.cases.0, few_of c.lexemes.new.symbols c.in-Ok.text.now c.in-Ok-tokens.tokens.items c.deref-2.result.now c.in-Ok-tokens.ensures.order (each c))) c.read.ensures.few

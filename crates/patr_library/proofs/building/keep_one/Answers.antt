@@ -6,13 +6,13 @@ use Rattle.patr_library.proofs.KeptRules.{numbered_is, there, variants_within}
 use Rattle.patr_library.proofs.building.keep_one.Goals as goal
 
 pub keep_variants-requires : goal.keep_variants-requires
-keep_variants-requires g c =
+keep_variants-requires c =
     let r = there c.args.grammar.now.rules.items c.args.rule c.requires in
     let same : c.in_ok-variants.variants.items ≡ c.deref.result.now = search rules in
     subst (AllByRecursion StaysWithin) same (variants_within r.0 c.in_ok-variants.variants.items (c.in_ok-variants.ensures.expanded r.0 r.1).variants)
 
 pub returns-clause-dealt : goal.returns-clause-dealt
-returns-clause-dealt g c =
+returns-clause-dealt c =
     λ r h.
     let e = c.in_ok-variants.ensures.expanded r h in
     let same : c.deref.result.now ≡ c.in_ok-variants.variants.items = search rules in

@@ -1,4 +1,5 @@
-use Rattle.std.proofs.Common.{◌≡◌, rules, length, slice_get, Some}
+use Rattle.std.proofs.Common.{◌≡◌, ◌∙◌, ap, sym, rules, length, slice_get, Some}
+use Rattle.std.proofs.lemmas.Option.{slice_get-get_or}
 use Rattle.patr_arena.specs.Arenas.{shown_of}
 use Rattle.patr_expand.specs.Seen.{equations_at}
 use Rattle.patr_library.specs.Solved.{IsLeastAt}
@@ -6,12 +7,12 @@ use Rattle.patr_library.proofs.Keeping.{rule_dealt}
 use Rattle.patr_library.proofs.building.keep_rule.Goals as goal
 
 pub returns : goal.returns
-returns g c =
+returns c =
     let x = c.args.variant.now in
-    let m = c.in-Some-found.least in
+    let m = c.in-Some.least in
     let made = c.in_ok-made.made in
-    let first : slice_get x.symbols.items 0 ≡ Some c.in-Some.mother.now = search rules in
+    let first : slice_get x.symbols.items 0 ≡ Some c.index-mother.result.now = slice_get-get_or x.symbols.items 0 _ x.some ∙ ap (λ y. Some y) (sym c.index-mother.ensures) in
     let long : c.len-count.result ≡ length x.symbols.items = search rules in
     let least : IsLeastAt c.len-count.result (equations_at x.equations.items) m.block m.root = search rules in
-    rule_dealt (shown_of c.args.arena.now) (shown_of c.store.new.arena) x c.in-Some.mother.now c.len-count.result m.block m.root made.root made.nodes made.arcs c.args.items.now.items c.push.new.self.items c.args.arena.now.lawful
+    rule_dealt (shown_of c.args.arena.now) (shown_of c.store.new.arena) x c.index-mother.result.now c.len-count.result m.block m.root made.root made.nodes made.arcs c.args.items.now.items c.push.new.self.items c.args.arena.now.lawful
     first long least c.in_ok-made.ensures.arena c.in_ok-made.ensures.root.0 c.in_ok-made.ensures.root.1 c.in_ok-made.ensures.counts.0 c.in_ok-made.ensures.counts.1 c.in_ok-push.ensures.items

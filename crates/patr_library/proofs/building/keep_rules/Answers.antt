@@ -10,7 +10,7 @@ use Rattle.patr_library.proofs.KeptRules.{there, each_more, taken_fault, fault_h
 use Rattle.patr_library.proofs.building.keep_rules.Goals as goal
 
 pub returns-in_err-keep_one-clause-refused : goal.returns-in_err-keep_one-clause-refused
-returns-in_err-keep_one-clause-refused g c =
+returns-in_err-keep_one-clause-refused c =
     let rs = c.args.grammar.now.rules.items in
     let below : c.loop-rule.rule < length rs = omega (arith, c.loop-rule-test.true, c.len-rule-end.ensures) in
     let r = there rs c.loop-rule.rule below in
@@ -18,7 +18,7 @@ returns-in_err-keep_one-clause-refused g c =
     rw (p.1, p.2) (fault_here (λ r. rule_fault (rule_seen r)) (λ rs. rules_fault (map rule_seen rs)) rules_first rs c.loop-rule.rule r.0 c.in_err-keep_one.field-0.0 r.1 c.loop-rule.invariant.1 (c.in_err-keep_one.ensures.refused r.0 r.1))
 
 pub loop-rule-preserved : goal.loop-rule-preserved
-loop-rule-preserved g c =
+loop-rule-preserved c =
     let rs = c.args.grammar.now.rules.items in
     let i = c.loop-rule.rule in
     let below : i < length rs = omega (arith, c.loop-rule-test.true, c.len-rule-end.ensures) in

@@ -7,14 +7,14 @@ use Rattle.patr_library.proofs.Keeping.{none_dealt, one_dealt, rule_still, numbe
 use Rattle.patr_library.proofs.building.keep_variants.Goals as goal
 
 pub loop-variant-init : goal.loop-variant-init
-loop-variant-init g c = none_dealt HasRuleItem HasNoRule (shown_of c.args.arena.now) c.args.items.now.items
+loop-variant-init c = none_dealt HasRuleItem HasNoRule (shown_of c.args.arena.now) c.args.items.now.items
 
 pub keep_rule-requires : goal.keep_rule-requires
-keep_rule-requires g c =
+keep_rule-requires c =
     subst StaysWithin (sym c.variant-item.is) (within_at c.args.variants.now c.loop-variant.variant-index c.variant-item.result c.requires c.loop-variant-test.true)
 
 pub loop-variant-preserved : goal.loop-variant-preserved
-loop-variant-preserved g c =
+loop-variant-preserved c =
     let xs = c.args.variants.now in
     let i = c.loop-variant.variant-index in
     let x = c.variant-item.result in
@@ -26,7 +26,7 @@ loop-variant-preserved g c =
     (one_dealt HasRuleItem HasNoRule rule_still v (shown_of c.loop-variant.arena) u (numbered (take i xs)) (x.rule, x.variant, variant_at x) c.args.items.now.items c.loop-variant.items.items c.keep_rule.new.items.items c.loop-variant.invariant c.in_ok-keep_rule.ensures)
 
 pub returns : goal.returns
-returns g c =
+returns c =
     let xs = c.args.variants.now in
     let l = c.loop-variant in
     let all : take l.variant-index xs ≡ xs = take_all l.variant-index xs (omega (arith, c.loop-variant-test.false, l.auto.variant-index-end)) in

@@ -4,4 +4,4 @@ use Rattle.patr_library.specs.Built.{AreRulesDealt, numbered}
 use Rattle.patr_library.proofs.building.keep_variants.Given as goal
 
 abbrev pub invariant-loop-variant : goal.invariant-loop-variant
-invariant-loop-variant g l = AreRulesDealt (shown_of l.initial.arena) (shown_of l.arena) (numbered (take l.variant-index l.variants)) l.initial.items.items l.items.items
+invariant-loop-variant l = AreRulesDealt (shown_of l.initial.arena) (shown_of l.arena) (numbered (take l.variant-index l.variants)) l.initial.items.items l.items.items

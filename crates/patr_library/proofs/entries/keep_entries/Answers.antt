@@ -7,17 +7,17 @@ use Rattle.patr_library.proofs.KeptEntries.{entries_next, entry_fault_here}
 use Rattle.patr_library.proofs.entries.keep_entries.Goals as goal
 
 pub loop-number-init : goal.loop-number-init
-loop-number-init g c = (none_dealt HasEntryItem HasNoEntry (shown_of c.args.arena.now) c.args.items.now.items, refl)
+loop-number-init c = (none_dealt HasEntryItem HasNoEntry (shown_of c.args.arena.now) c.args.items.now.items, refl)
 
 pub loop-number-preserved : goal.loop-number-preserved
-loop-number-preserved g c =
+loop-number-preserved c =
     let x = c.index-entries-number.result in
     let is : get_or c.args.entries.now c.loop-number.number x ≡ x = search rules in
     entries_next c.args.entries.now c.loop-number.number x (shown_of c.args.arena.now) (shown_of c.loop-number.arena) (shown_of c.keep_one.new.arena) c.args.items.now.items c.loop-number.items.items c.keep_one.new.items.items (omega (arith, c.loop-number-test.true)) is
     c.loop-number.invariant.0 c.loop-number.invariant.1 c.in_ok-keep_one.ensures.dealt c.in_ok-keep_one.ensures.faultless
 
 pub returns-in_err-keep_one-clause-refused : goal.returns-in_err-keep_one-clause-refused
-returns-in_err-keep_one-clause-refused g c =
+returns-in_err-keep_one-clause-refused c =
     let x = c.index-entries-number.result in
     let is : get_or c.args.entries.now c.loop-number.number x ≡ x = search rules in
     let p = err_from_is_err_and c.from_residual.result c.from_residual.ensures.1 in

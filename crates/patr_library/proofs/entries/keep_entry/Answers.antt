@@ -1,17 +1,25 @@
-use Rattle.std.proofs.Common.{◌≡◌, sym, subst, rules, length, Some}
+use Rattle.std.proofs.Common.{◌≡◌, arith, sym, subst, rules, length, Some}
 use Rattle.patr_model.specs.Structure.{Node, arc}
 use Rattle.patr_arena.specs.Arenas.{shown_of}
 use Rattle.patr_expand.specs.Seen.{equations_at}
 use Rattle.patr_library.specs.Own.{IsOwn, own_nodes, own_value}
 use Rattle.patr_library.specs.Solved.{IsLeastAt}
 use Rattle.patr_library.proofs.KeptEntries.{entry_dealt}
+use Rattle.patr_library.proofs.Steps.{first_slot}
 use Rattle.patr_library.proofs.entries.keep_entry.Goals as goal
 
+pub slot_value-to-requires-clause-slot : goal.slot_value-to-requires-clause-slot
+slot_value-to-requires-clause-slot c =
+    let m = c.in-Some.least in
+    let es = equations_at c.args.equations.now in
+    let least : IsLeastAt 1 es m.block m.root = search rules in
+    first_slot 1 es m.block m.root (omega arith) least
+
 pub returns : goal.returns
-returns g c =
+returns c =
     let m = c.in-Some.least in
     let made = c.in_ok-made.made in
-    let to = c.in_ok-to.to in
+    let to = c.slot_value-to.result in
     let least : IsLeastAt 1 (equations_at c.args.equations.now) m.block m.root = search rules in
     let slot : arc (own_nodes m.block) (Node m.root) 0 ≡ Some (own_value to) = search rules in
     let own : IsOwn (length m.block) to = search rules in

@@ -10,14 +10,14 @@ use Rattle.patr_library.proofs.KeptEntries.{all_alone, variants_are}
 use Rattle.patr_library.proofs.entries.keep_one.Goals as goal
 
 pub keep_variants-requires : goal.keep_variants-requires
-keep_variants-requires g c =
+keep_variants-requires c =
     let vs = c.in_ok-variants.variants.items in
     let body : c.deref.result.now ≡ c.args.entry.now.features.items = search rules in
     let are : lists_at vs ≡ variants (feature_variants number) (features_seen c.args.entry.now.features.items) = c.in_ok-variants.ensures.variants ∙ ap (λ l. variants (feature_variants number) (features_seen l)) body in
-    all_alone c.args.entry.now vs (variants_are c.args.entry.now vs are)
+    record { few = c.in_ok-variants.ensures.few; alone = all_alone c.args.entry.now vs (variants_are c.args.entry.now vs are) }
 
 pub returns-clause-dealt : goal.returns-clause-dealt
-returns-clause-dealt g c =
+returns-clause-dealt c =
     let vs = c.in_ok-variants.variants.items in
     let body : c.deref.result.now ≡ c.args.entry.now.features.items = search rules in
     let are : lists_at vs ≡ variants (feature_variants number) (features_seen c.args.entry.now.features.items) = c.in_ok-variants.ensures.variants ∙ ap (λ l. variants (feature_variants number) (features_seen l)) body in

@@ -5,7 +5,7 @@ use Rattle.patr_library.specs.Entries.{variant_of}
 use Rattle.patr_library.proofs.entries.keep_variant.Goals as goal
 
 pub returns : goal.returns
-returns g c =
+returns c =
     let made = c.in_ok-equations.equations.items in
     let more = c.args.features.items in
     let both : c.deref.result.now ≡ made ++ more = search rules in

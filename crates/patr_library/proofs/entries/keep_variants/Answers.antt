@@ -8,20 +8,28 @@ use Rattle.patr_library.proofs.KeptEntries.{among, entry_still, nothing_left, va
 use Rattle.patr_library.proofs.entries.keep_variants.Goals as goal
 
 pub loop-features-init : goal.loop-features-init
-loop-features-init g c =
+loop-features-init c =
     let long : into_iter_len c.into_iter-features-iterator.result ≡ length (into_iter_items c.into_iter-features-iterator.result) = search rules in
     (refl, none_dealt HasEntryItem HasNoEntry (shown_of c.args.arena.now) c.args.items.now.items, refl, long)
 
 pub keep_variant-requires : goal.keep_variant-requires
-keep_variant-requires g c =
+keep_variant-requires c =
     let at = c.loop-features in
     let x = c.in-Some.features in
     let steps : into_iter_items at.features-iterator ≡ x ∷ into_iter_items c.next.new.self = c.in-Some.ensures.steps.0 in
     let whole = ap (λ l. at.yielded ++ l) (sym steps) ∙ (at.invariant.0 ∙ c.into_iter-features-iterator.ensures.into_iter_gives.0) in
-    among (StaysAlone c.args.entry.now) at.yielded (into_iter_items c.next.new.self) x c.args.variants.items whole c.requires
+    among (StaysAlone c.args.entry.now) at.yielded (into_iter_items c.next.new.self) x c.args.variants.items whole c.requires.alone
+
+pub overflow_add-variant : goal.overflow_add-variant
+overflow_add-variant c =
+    let at = c.loop-features in
+    let x = c.in-Some.features in
+    let steps : into_iter_items at.features-iterator ≡ x ∷ into_iter_items c.next.new.self = c.in-Some.ensures.steps.0 in
+    let whole = ap length (at.invariant.0 ∙ c.into_iter-features-iterator.ensures.into_iter_gives.0) in
+    omega (arith, at.invariant.2, whole, ap length steps, length-append at.yielded (into_iter_items at.features-iterator), c.requires.few)
 
 pub loop-features-preserved : goal.loop-features-preserved
-loop-features-preserved g c =
+loop-features-preserved c =
     let at = c.loop-features in
     let x = c.in-Some.features in
     let v = shown_of c.args.arena.now in
@@ -40,7 +48,7 @@ loop-features-preserved g c =
     )
 
 pub returns : goal.returns
-returns g c =
+returns c =
     let at = c.loop-features in
     let none = c.in-None.ensures.steps in
     let empty : into_iter_items at.features-iterator ≡ [] = nothing_left _ (sym at.invariant.3 ∙ none.0) in

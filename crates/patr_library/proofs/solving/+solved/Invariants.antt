@@ -2,4 +2,4 @@ use Rattle.std.proofs.Common.{length}
 use Rattle.patr_library.proofs.solving.+solved.Given as goal
 
 abbrev pub decreases-solved : goal.decreases-solved
-decreases-solved g l = length l.equations.now
+decreases-solved l = length l.equations.now

@@ -8,12 +8,12 @@ use Rattle.patr_library.proofs.Steps.{least_more, none_more, none_at_once}
 use Rattle.patr_library.proofs.solving.with_equation.Goals as goal
 
 pub returns-in_default-clause-none : goal.returns-in_default-clause-none
-returns-in_default-clause-none g c =
+returns-in_default-clause-none c =
     let none : model.equation_at (equation_at c.args.equation.now) ≡ None = search rules in
     λ slots es so_far within. none_at_once slots es (equation_at c.args.equation.now) none
 
 pub returns-clause-some : goal.returns-clause-some
-returns-clause-some g c =
+returns-clause-some c =
     let s = c.in-Some.stated in
     let e = equation_at c.args.equation.now in
     let stated : IsStatement e (pointed s.block s.root) = search rules in
@@ -23,7 +23,7 @@ returns-clause-some g c =
     c.in_ok-made.made c.in_ok-made.ensures.some
 
 pub returns-clause-none : goal.returns-clause-none
-returns-clause-none g c =
+returns-clause-none c =
     let s = c.in-Some.stated in
     let e = equation_at c.args.equation.now in
     let stated : IsStatement e (pointed s.block s.root) = search rules in

@@ -1,4 +1,4 @@
-use Rattle.std.proofs.Common.{◌-◌, map, sym, arith}
+use Rattle.std.proofs.Common.{◌-◌, ◌∷◌, [], map, length, length-append, sym, ap, arith}
 use Rattle.std.proofs.lemmas.Result.{err_from_is_err_and}
 use Rattle.std.proofs.lemmas.List.{map_push}
 use Rattle.patr_grammar.specs.Views.{left_over}
@@ -23,6 +23,7 @@ loop-self-preserved c =
             (right_more (map item_view c.loop-self.right.items) i.read.0 (left_over c.loop-self.left c.loop-self.self.rest.now) (left_over c.item.new.left c.item.new.self.rest.now) (item_view c.in_ok-item.item) c.args.self.now.rest.now (sym c.loop-self-test.ensures) i.read.1 i.read.2 c.in_ok-item.ensures.gives),
       );
       shorter = omega (arith, c.in_ok-item.ensures.no_longer, i.shorter);
+      few = omega (arith, i.few, c.in_ok-item.ensures.one, ap length c.in_ok-push.ensures.items, length-append c.loop-self.right.items (c.in_ok-item.item ∷ []));
     }
 
 pub returns-clause-gives : goal.returns-clause-gives

@@ -1,11 +1,12 @@
-use Rattle.std.proofs.Common.{◌≡◌, ◌∙◌, None, Some, ap, map, refl, subst, rules}
+use Rattle.std.proofs.Common.{◌≡◌, ◌∙◌, None, Some, ap, arith, length, map, refl, sym, subst, rules}
+use Rattle.std.proofs.lemmas.List.{length-map}
 use Rattle.patr_model.specs.Build.{build_fault}
 use Rattle.patr_text.specs.declared.symbols.Id.{Id}
 use Rattle.patr_arena.specs.Arenas.{shown_of}
 use Rattle.patr_library.specs.declared.item.EntryItem.{EntryItem}
 use Rattle.patr_library.specs.declared.item.RuleItem.{RuleItem}
-use Rattle.patr_library.specs.Stored.{HasItems, built_rules, entries_of, grammar_of, word_at}
-use Rattle.patr_library.proofs.Merged.{mothers_found, words_found}
+use Rattle.patr_library.specs.Stored.{AreOfEntries, HasItems, built_rules, entries_of, grammar_of, word_at}
+use Rattle.patr_library.proofs.Merged.{entries_there, mothers_found, words_found}
 use Rattle.patr_library.proofs.library.Library.build.Goals as goal
 
 pub invariant_of-result : goal.invariant_of-result
@@ -31,6 +32,38 @@ invariant_of-result c =
             ∙ (ap (λ es. map (λ (i : EntryItem). word_at es i.entry) c.deref-3.result.now) c.entries-2.ensures.entries ∙ ap (map (λ (i : EntryItem). word_at l i.entry)) of_entries)));
       };
     }
+
+pub words-requires : goal.words-requires
+words-requires c =
+    let grammar = c.args.grammar in
+    let l = c.args.lexicon in
+    let made = c.in_ok-items.items in
+    let of_entries : c.deref-3.result.now ≡ made.entries.items = search rules in
+    let items = subst (λ es. HasItems (built_rules grammar es) (shown_of made.arena) made.rules.items made.entries.items) c.entries.ensures.entries c.in_ok-items.ensures.items in
+    subst (λ es. AreOfEntries (length es) c.deref-3.result.now) (sym c.entries-2.ensures.entries) (subst (AreOfEntries (length l)) (sym of_entries) (entries_there grammar l (shown_of made.arena) made.entries.items items.entry_items))
+
+pub index_of-requires : goal.index_of-requires
+index_of-requires c =
+    let made = c.in_ok-items.items in
+    let mothers_are : c.deref-2.result.now ≡ c.in_ok-mothers.field-0.items = search rules in
+    let of_rules : c.deref.result.now ≡ made.rules.items = search rules in
+    omega (arith, ap length mothers_are, ap length c.in_ok-mothers.ensures, length-map c.deref.result.now (λ (i : RuleItem). i.mother), ap length of_rules, c.in_ok-items.ensures.few.0)
+
+pub index_of-requires-2 : goal.index_of-requires-2
+index_of-requires-2 c =
+    let made = c.in_ok-items.items in
+    let l = c.entries-2.result.now in
+    let words_are : c.deref-4.result.now ≡ c.in_ok-words.field-0.items = search rules in
+    let of_entries : c.deref-3.result.now ≡ made.entries.items = search rules in
+    omega (
+      arith,
+      ap length words_are,
+      ap length c.in_ok-words.ensures,
+      length-map c.in_ok-words.field-0.items (λ (key : Id). Some key.0),
+      length-map c.deref-3.result.now (λ (i : EntryItem). word_at l i.entry),
+      ap length of_entries,
+      c.in_ok-items.ensures.few.1,
+    )
 
 pub returns-clause-built : goal.returns-clause-built
 returns-clause-built c = record {
