@@ -7,7 +7,11 @@ use Rattle.std.specs.Cmp.Lexicographic.{slice_cmp}
 use Rattle.patr_model.specs.Session.{numbers}
 use Rattle.patr_chart.specs.declared.key.KeyItem.{KeyItem}
 use Rattle.patr_chart.specs.Edges.{item_of}
-use Rattle.patr_chart.specs.Orders.{item_cmp, IsOrderOf, AreOrdered}
+use Rattle.patr_chart.specs.Orders.{IsOrderOf, AreOrdered}
+
+-- what the order of nodes comes to
+abbrev pub item_cmp : KeyItem → KeyItem → Ordering
+item_cmp x y = ordering_then (nat_cmp x.kind y.kind) (ordering_then (nat_cmp x.number y.number) (ordering_then (nat_cmp x.variant y.variant) (nat_cmp x.end y.end)))
 
 then_assoc : (a b c : Ordering) → ordering_then (ordering_then a b) c ≡ ordering_then a (ordering_then b c)
 then_assoc Less b c = refl
@@ -78,7 +82,7 @@ items_equal (x ∷ xs) (y ∷ ys) e =
     let r = items_equal xs ys whole.1 in
     λ i. (let z : KeyItem = record { kind = k i; number = n i; variant = v i; end = d i } in z) ∷ r i
 
-pub are_ordered : (xs ys : List KeyItem) → AreOrdered xs ys
+pub are_ordered : (xs ys : List KeyItem) → AreOrdered item_cmp xs ys
 are_ordered xs ys = record {
   order = subst (λ o. IsOrderOf o (numbers (map item_of xs)) (numbers (map item_of ys))) (sym (by_numbers xs ys)) (number_order (numbers (map item_of xs)) (numbers (map item_of ys)));
   equal = items_equal xs ys;

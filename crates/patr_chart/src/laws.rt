@@ -2,6 +2,8 @@
 ghost use Rattle.patr_chart.specs.Laws.{PairsAreAdjacent, PartnersAreAdjacent, PassiveIsComplete, TreesAreMade};
 ghost use Rattle.patr_chart.specs.Orders.{KeysAreOrdered};
 
+use crate::key::KeyItem;
+
 /// The partners of an edge are the earlier edges that are adjacent to it, and no others, rising.
 pub fn partners_are_adjacent()
     ensures { PartnersAreAdjacent }
@@ -22,7 +24,7 @@ pub fn pairs_are_adjacent()
     ensures { PairsAreAdjacent }
 {}
 
-/// Lists of nodes compare, node by node, as keys are ordered, number by number.
+/// Lists of nodes compare, node by node in the order of [`KeyItem`], as keys are ordered, number by number.
 pub fn keys_are_ordered()
-    ensures { KeysAreOrdered }
+    ensures { KeysAreOrdered ⟦<KeyItem as Ord>⟧.cmp }
 {}

@@ -1,7 +1,5 @@
 ghost use Rattle.std.specs.Prelude.{◌≡◌, ◌<◌, IfSome};
-ghost use Rattle.std.specs.Ordering.{is_lt};
 ghost use Rattle.patr_chart.specs.Charted.{IsEdgeAfter, IsNext};
-ghost use Rattle.patr_chart.specs.Orders.{item_cmp};
 
 use super::*;
 use patr_arena::Id;
@@ -178,13 +176,6 @@ fn key_of_a_sentence(rt: HostRuntime) -> Result<(), Fail> {
     Ok(())
 }
 
-/// Whether the first node comes before the second, by the derived order.
-fn comes_before(left: &KeyItem, right: &KeyItem) -> bool
-    ensures { result ≡ is_lt (item_cmp left.now right.now) }
-{
-    left < right
-}
-
 #[test]
 fn nodes_of_keys_in_order(rt: HostRuntime) {
     let item = |kind, number, variant, end| KeyItem {
@@ -201,7 +192,7 @@ fn nodes_of_keys_in_order(rt: HostRuntime) {
         item(1, 1, 1, 1),
     ];
     for pair in rising.windows(2) {
-        assert!(rt; comes_before(&pair[0], &pair[1]));
+        assert!(rt; pair[0] < pair[1]);
     }
 }
 

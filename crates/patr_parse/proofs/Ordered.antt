@@ -11,8 +11,8 @@ use Rattle.patr_chart.specs.declared.edge.Edge.{Edge}
 use Rattle.patr_chart.specs.declared.key.KeyItem.{KeyItem}
 use Rattle.patr_chart.specs.Edges.{item_of}
 use Rattle.patr_chart.specs.Charted.{tree}
-use Rattle.patr_chart.specs.Orders.{item_cmp, IsOrderOf}
-use Rattle.patr_chart.proofs.Ordered.{are_ordered}
+use Rattle.patr_chart.specs.Orders.{IsOrderOf}
+use Rattle.patr_chart.proofs.Ordered.{are_ordered, item_cmp}
 use Rattle.patr_parse.specs.declared.analyses.Analysis.{Analysis}
 use Rattle.patr_parse.specs.Analyses.{HasKey, edge_of}
 use Rattle.patr_parse.proofs.Picked.{times, times_two, times_rest}

@@ -1,13 +1,14 @@
 -- The pairs that a task decides are those of its edge, each once: so the sum of the partners is the number of adjacent pairs.
-use Rattle.std.proofs.Common.{◌≡◌, inl, inr, ℕ, suc, ◌+◌, ◌<◌, ◌≤◌, Bool, List, [], ◌∷◌, ◌++◌, length, take, map, Some, slice_get, refl, sym, ap, arith, subst, length-append}
-use Rattle.std.proofs.lemmas.List.{length-map, take_more}
+use Rattle.std.proofs.Common.{◌≡◌, inl, inr, ℕ, suc, ◌+◌, ◌<◌, ◌≤◌, Bool, List, [], ◌∷◌, ◌++◌, length, take, map, Option, Some, None, slice_get, refl, sym, ap, arith, subst, length-append}
+use Rattle.std.proofs.lemmas.List.{length-map, length-take, take_more}
 use Rattle.patr_model.specs.Derivation.{Rules, Derivation, Begin}
 use Rattle.patr_model.specs.Chart.{IsIn, EachOnce}
 use Rattle.patr_model.specs.Rounds.{ArePairs, ArePairsOf, HasPairs}
 use Rattle.patr_model.proofs.Rounds.{counted}
 use Rattle.patr_chart.specs.declared.edge.Edge.{Edge}
 use Rattle.patr_chart.specs.Edges.{is_passive}
-use Rattle.patr_chart.specs.Charted.{AreEdges, partners, derivations, tree}
+use Rattle.patr_chart.specs.Charted.{AreEdges, is_partner, partners, partners_of, derivations, tree}
+use Rattle.patr_chart.proofs.Places.{places_length}
 use Rattle.patr_chart.proofs.Trees.{get_below}
 use Rattle.patr_chart.specs.Laws.{KindsFit}
 use Rattle.patr_parse.specs.Tasks.{pair, Has}
@@ -39,6 +40,14 @@ once_pairs es once b k n (x ∷ js) r below = (
       omega (arith, same, high),
   once_pairs es once b k (suc x) js r.1 (λ j h. below j (inr h)),
 )
+
+-- an edge has no more partners than there are edges
+pub partners_few : (es : List Edge) (k : ℕ) → length (partners es k) ≤ length es
+partners_few es k = go (slice_get es k)
+  where
+    go : (o : Option Edge) → length (partners_of es k o) ≤ length es
+    go None = omega arith
+    go (Some e) = omega (arith, places_length (is_partner e) 0 (take k es), length-take k es)
 
 module _ (g : Rules) (words : ℕ) (es : List Edge) (all : AreEdges words es) (fit : KindsFit g es) (once : EachOnce (derivations es)) (k : ℕ) (e : Edge) (at : slice_get es k ≡ Some e) where
   pub task_pairs : (b : Bool) → is_passive e ≡ b → ArePairsOf g (take k (derivations es)) (tree es k) (map (pair b es k) (partners es k))

@@ -17,3 +17,6 @@ pub use parsed::Parsed;
 pub use patr_pool::{Gate, OpenGate};
 pub use patr_text::{Fault, Memory};
 pub use sentence::words_of;
+
+#[cfg(test)]
+mod tests;

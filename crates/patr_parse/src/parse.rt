@@ -1,5 +1,6 @@
 //! Parsing a sentence.
 ghost use Rattle.std.specs.Prelude.{◌≡◌, ◌+◌, ◌<◌, ◌≤◌, length, IfOk, IfErr};
+ghost use Rattle.patr_arena.specs.Blocks.{Extends};
 ghost use Rattle.patr_model.specs.Session.{words_of};
 ghost use Rattle.patr_parse.specs.Sentences.{IsParsed, IsRefusedFor};
 
@@ -35,6 +36,9 @@ pub enum ParseCause {
 /// The closed chart of a sentence and its analyses, found by one worker. `limit` is the most edges that the chart may
 /// have.
 ///
+/// The nodes that it shows are those of the library's arena, which stay where they are, and behind them the sentence's
+/// own.
+///
 /// `Fault::Refused` gives the first cause for which the sentence is refused, and `Fault::Memory` says that memory ran out.
 pub fn parse_alone<'a, G: Gate, L: Ledger>(
     alloc: Global,
@@ -50,6 +54,7 @@ pub fn parse_alone<'a, G: Gate, L: Ledger>(
     ensures parsed { IfOk result (λ p. IsParsed library.now symbols.now (words_of sentence.now) limit p) }
     ensures steps { IfOk result (λ p. steps.new ≡ steps.old + p.decided) }
     ensures refused { IfErr result (λ fault. IsRefusedFor library.now symbols.now (words_of sentence.now) limit fault) }
+    ensures base { IfOk result (λ p. Extends library.now.shown p.shown) }
 {
     let numbers = match numbers_of(alloc, library, symbols, sentence) {
         Ok(numbers) => numbers,

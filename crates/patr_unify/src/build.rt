@@ -6,6 +6,7 @@ ghost use Rattle.patr_unify.specs.Copying.{CopiesFit, HasFinished, HasGoneOn, Ha
 ghost use Rattle.patr_unify.specs.Deciding.{IsSettledFor};
 ghost use Rattle.patr_unify.specs.Reading.{AreHeld, key};
 ghost use Rattle.patr_unify.specs.Walking.{AllEnd, IsPaused, end_value};
+ghost use Rattle.patr_scratch.specs.Contents.{KeepsRoom};
 ghost use Rattle.patr_scratch.specs.declared.Visit.TheVariants as visit;
 
 use crate::cursor::{Cursor, FIRST, take_up};
@@ -52,7 +53,8 @@ fn finish<N: Nodes>(
     requires held { AreHeld (N.shown nodes.now) scratch.old }
     requires ending { AllEnd (N.shown nodes.now) scratch.old }
     requires copies { CopiesFit (N.shown nodes.now) (length draft.old.block) scratch.old }
-    ensures { IfOk result (λ _. HasFinished (N.shown nodes.now) scratch.old scratch.new top draft.old draft.new) }
+    ensures finished { IfOk result (λ _. HasFinished (N.shown nodes.now) scratch.old scratch.new top draft.old draft.new) }
+    ensures room { KeepsRoom scratch.old scratch.new }
 {
     draft.nodes = draft.nodes.checked_add(1).ok_or(AllocError)?;
     if may_stay(nodes, scratch, top) {
@@ -89,7 +91,8 @@ fn go_on<N: Nodes>(
     requires copies { CopiesFit (N.shown nodes.now) (length draft.old.block) scratch.old }
     requires room { HasRoomToEnter (N.shown nodes.now) scratch.old (key (N.shown nodes.now) top) }
     requires paused { IsPaused (N.shown nodes.now) scratch.old visit.Entered (key (N.shown nodes.now) top) from }
-    ensures { IfOk result (λ next. HasGoneOn (N.shown nodes.now) scratch.old scratch.new top draft.old draft.new next) }
+    ensures gone { IfOk result (λ next. HasGoneOn (N.shown nodes.now) scratch.old scratch.new top draft.old draft.new next) }
+    ensures room { KeepsRoom scratch.old scratch.new }
 {
     match next_end(nodes, scratch, top, Visit::Entered, from) {
         Some(found) => {
@@ -113,7 +116,8 @@ fn copy_from<N: Nodes>(
 ) -> Result<Made, Memory>
     requires root { IsHeld (N.shown nodes.now) root.block root.offset }
     requires settled { (l : ℕ) × (p : List ℕ) × (r : _) × (l < length (N.shown nodes.now).structure) × IsSettledFor (N.shown nodes.now) scratch.old l p r × (end_value (N.shown nodes.now) scratch.old (Node l) ≡ Node (key (N.shown nodes.now) root)) }
-    ensures { (l : ℕ) (p : List ℕ) (r : _) → l < length (N.shown nodes.now).structure → IsSettledFor (N.shown nodes.now) scratch.old l p r → end_value (N.shown nodes.now) scratch.old (Node l) ≡ Node (key (N.shown nodes.now) root) → IfOk result (λ made. IsMade (N.shown nodes.now) l p r made.block made.root made.nodes made.arcs) }
+    ensures made { (l : ℕ) (p : List ℕ) (r : _) → l < length (N.shown nodes.now).structure → IsSettledFor (N.shown nodes.now) scratch.old l p r → end_value (N.shown nodes.now) scratch.old (Node l) ≡ Node (key (N.shown nodes.now) root) → IfOk result (λ made. IsMade (N.shown nodes.now) l p r made.block made.root made.nodes made.arcs) }
+    ensures room { KeepsRoom scratch.old scratch.new }
 {
     let mut draft = Draft {
         block: Block::new(alloc),
@@ -139,6 +143,8 @@ fn copy_from<N: Nodes>(
 ///
 /// An untouched node keeps its place: one that no other node was made one with, below which there is none either, and,
 /// on the right side, whose place is no node of the left side. Each node of the block is reached from the root.
+///
+/// Whatever it answers, no room of the scratch is smaller than before.
 pub fn copy<N: Nodes>(
     alloc: Global,
     nodes: &N,
@@ -147,7 +153,8 @@ pub fn copy<N: Nodes>(
 ) -> Result<Made, Memory>
     requires left { IsHeld (N.shown nodes.now) left.block left.offset }
     requires settled { (p : List ℕ) × (r : _) × IsSettledFor (N.shown nodes.now) scratch.old (number_of (N.shown nodes.now) left.block left.offset) p r }
-    ensures { (p : List ℕ) (r : _) → IsSettledFor (N.shown nodes.now) scratch.old (number_of (N.shown nodes.now) left.block left.offset) p r → IfOk result (λ made. IsMade (N.shown nodes.now) (number_of (N.shown nodes.now) left.block left.offset) p r made.block made.root made.nodes made.arcs) }
+    ensures made { (p : List ℕ) (r : _) → IsSettledFor (N.shown nodes.now) scratch.old (number_of (N.shown nodes.now) left.block left.offset) p r → IfOk result (λ made. IsMade (N.shown nodes.now) (number_of (N.shown nodes.now) left.block left.offset) p r made.block made.root made.nodes made.arcs) }
+    ensures room { KeepsRoom scratch.old scratch.new }
 {
     match end_of(nodes, scratch, left_target(left)) {
         Target::Atom(atom) => Ok(Made {

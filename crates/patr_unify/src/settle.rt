@@ -4,6 +4,7 @@ ghost use Rattle.patr_model.specs.Structure.{Node, Structure, Value, IsValue, at
 ghost use Rattle.patr_model.specs.Subsumption.{TakesBoth};
 ghost use Rattle.patr_marks.specs.Machine.{Forward};
 ghost use Rattle.patr_arena.specs.Shown.{IsHeld};
+ghost use Rattle.patr_scratch.specs.Contents.{KeepsRoom};
 ghost use Rattle.patr_unify.specs.Reading.{AreHeld, PairsHeld, TargetIsHeld, key};
 ghost use Rattle.patr_unify.specs.Stepping.{BareOrNot, BoundOrNot, Covers, HasLog, IsRunning, IsSteady, MergesFit, Outcome};
 
@@ -107,6 +108,7 @@ pub(crate) fn settle_all<N: Nodes>(nodes: &N, scratch: &mut Scratch) -> bool
     requires { (l : ℕ) × (r : Value) × (target : Value) × (ks : List ℕ) × Covers (N.shown nodes.now) l r ks × IsRunning (N.shown nodes.now) scratch.old l r target ks }
     ensures done { result ≡ true → (l : ℕ) (r target : Value) (ks : List ℕ) → Covers (N.shown nodes.now) l r ks → IsRunning (N.shown nodes.now) scratch.old l r target ks → IsRunning (N.shown nodes.now) scratch.new l r target ks × (scratch.new.pairs ≡ []) }
     ensures clash { result ≡ false → (l : ℕ) (r target : Value) (ks : List ℕ) → Covers (N.shown nodes.now) l r ks → IsRunning (N.shown nodes.now) scratch.old l r target ks → (p : List ℕ) → l < length (N.shown nodes.now).structure → IsValue (N.shown nodes.now).structure target → at (N.shown nodes.now).structure (Node l) p ≡ Some target → (G : Structure) (g : Value) → TakesBoth (N.shown nodes.now).structure (Node l) p (N.shown nodes.now).structure r G g → ⊥ }
+    ensures room { KeepsRoom scratch.old scratch.new }
 {
     while let Some((a, b)) = scratch.pop_pair() {
         if !settle(nodes, a, b, scratch) {

@@ -4,6 +4,7 @@ ghost use Rattle.patr_model.specs.Structure.{Node, Structure, at};
 ghost use Rattle.patr_model.specs.Subsumption.{TakesBoth};
 ghost use Rattle.patr_arena.specs.Paths.{ids};
 ghost use Rattle.patr_arena.specs.Shown.{IsHeld, ValueIsHeld, number_of, value_of};
+ghost use Rattle.patr_scratch.specs.Contents.{KeepsRoom};
 ghost use Rattle.patr_unify.specs.declared.solve.Decision.TheVariants as decision;
 ghost use Rattle.patr_unify.specs.Deciding.{HasDecisionRoom, IsSettledFor};
 
@@ -32,7 +33,7 @@ pub enum Decision {
 /// those reached from `right`, and `arcs` the number of arcs of these nodes. A node on both sides counts twice. With
 /// `Solvable` the marks in the scratch stand for a unifier, and [`crate::copy`] makes it from them.
 ///
-/// It adds one to `steps`.
+/// It adds one to `steps`. Whatever it answers, no room of the scratch is smaller than before.
 pub fn decide<N: Nodes, L: Ledger>(
     nodes: &N,
     left: Addr,
@@ -48,6 +49,7 @@ pub fn decide<N: Nodes, L: Ledger>(
     ensures solvable { result ≡ decision.Solvable → IsSettledFor (N.shown nodes.now) scratch.new (number_of (N.shown nodes.now) left.block left.offset) (ids path.now) (value_of (N.shown nodes.now) right) }
     ensures none { result ≡ decision.NoUnifier → (G : Structure) (g : _) → TakesBoth (N.shown nodes.now).structure (Node (number_of (N.shown nodes.now) left.block left.offset)) (ids path.now) (N.shown nodes.now).structure (value_of (N.shown nodes.now) right) G g → ⊥ }
     ensures steps { steps.new ≡ steps.old + 1 }
+    ensures room { KeepsRoom scratch.old scratch.new }
 {
     scratch.begin();
     steps.tick();

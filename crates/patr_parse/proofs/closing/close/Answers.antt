@@ -32,6 +32,7 @@ loop-prediction-init g c =
       words = omega (arith, c.in_ok-prediction.ensures.words, c.in_ok-chart.ensures.0);
       pairs = ([], record { once = tt; pairs = λ t h. absurd h; every = λ a p h k n. absurd h }, refl);
       steps = omega arith;
+      count = omega arith;
     }
 
 pub predict-requires-clause-stands : goal.predict-requires-clause-stands
@@ -55,6 +56,7 @@ returns-then-worked-end-clause-closed g c =
     let all : take k (derivations old) ≡ derivations es =
     sym ((e.kept done).2 k i.stands.within) ∙ (ap (λ n. take n (derivations es)) (end ∙ sym (trees_length es)) ∙ take-length (derivations es)) in
     record {
+      longer = i.base.longer;
       words = omega (arith, e.words, i.words, length-map c.args.words.now (λ (w : Id). w.0));
       chart = chart;
       few = not_more (judge s) r ws es c.args.limit chart (e.few done) ready.small;
@@ -64,6 +66,11 @@ returns-then-worked-end-clause-closed g c =
 
 pub run_round-requires-clause-ready : goal.run_round-requires-clause-ready
 run_round-requires-clause-ready g c = let done : c.in_ok-predict.field-0 ≡ true = search rules in c.in_ok-predict.ensures.ready done
+
+pub run_round-requires-clause-within : goal.run_round-requires-clause-within
+run_round-requires-clause-within g c =
+    let done : c.in_ok-predict.field-0 ≡ true = search rules in
+    (c.in_ok-predict.ensures.stands done c.loop-prediction.worked c.loop-prediction.invariant.stands).within
 
 pub returns-then-not-branch-2-clause-more : goal.returns-then-not-branch-2-clause-more
 returns-then-not-branch-2-clause-more g c =
@@ -101,7 +108,7 @@ loop-prediction-preserved g c =
     let after = subst (λ n. Stands (judge s) r ws new n []) end stands in
     let base = extends_on s.shown v w i.base.longer c.in_ok-run_round.ensures.longer in
     let front : take k (derivations es) ≡ take k (derivations old) = (c.in_ok-predict.ensures.kept done).2 k i.stands.within in
-    let pairs = c.in_ok-run_round.ensures.decided (subst (λ l. HasPairs r l c.loop-prediction.decided) (sym front) i.pairs) before.within worked in
+    let pairs = c.in_ok-run_round.ensures.decided (subst (λ l. HasPairs r l c.loop-prediction.decided) (sym front) i.pairs) worked in
     let all : take c.len-end.result (derivations new) ≡ derivations es =
     ap (λ l. take c.len-end.result l) round.grown.2 ∙ (ap (λ n. take n (derivations es ++ made_by es round.grown.0)) (c.len-end.ensures ∙ sym (trees_length es)) ∙ take-append-le (length (derivations es)) (derivations es) (made_by es round.grown.0) (omega arith) ∙ take-length (derivations es)) in
     record {
@@ -113,4 +120,5 @@ loop-prediction-preserved g c =
       words = c.in_ok-run_round.ensures.words worked ∙ (c.in_ok-predict.ensures.words ∙ i.words);
       pairs = subst (λ l. HasPairs r l c.run_round.new.decided) (sym all) pairs;
       steps = (let was = i.steps in let one = c.in_ok-run_round.ensures.steps worked in omega (arith, was, one));
+      count = (let count = c.in_ok-run_round.ensures.count in omega (arith, count, end));
     }

@@ -1,4 +1,4 @@
-use Rattle.std.proofs.Common.{◌≡◌, ◌≤◌, ◌+◌, ◌-◌, [], length, map, take}
+use Rattle.std.proofs.Common.{◌≡◌, ◌≤◌, ◌+◌, ◌*◌, ◌-◌, [], length, map, take}
 use Rattle.patr_text.specs.declared.symbols.Id.{Id}
 use Rattle.patr_model.specs.Rounds.{HasPairs}
 use Rattle.patr_arena.specs.Sentences.{sentence_of}
@@ -19,6 +19,7 @@ invariant-loop-prediction g l = record {
   words : l.chart.words ≡ length l.words;
   pairs : HasPairs (rules_of l.library) (take l.worked (derivations l.chart.edges)) l.decided;
   steps : l.steps ≡ l.fn.steps + l.decided;
+  count : l.decided ≤ l.worked * 200000;
 }
 
 abbrev pub decreases-loop-prediction : goal.decreases-loop-prediction

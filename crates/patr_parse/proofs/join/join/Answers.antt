@@ -110,7 +110,7 @@ place-requires-clause-mother g c =
     let path = c.next_kind-kind.result.1.0 ∷ [] in
     let r = value_of v y.root in
     let yes' : c.in_ok-has_unifier.field-0 ≡ true = search rules in
-    let made = c.in_ok-made.ensures path r (c.in_ok-has_unifier.ensures.some yes') in
+    let made = c.in_ok-made.ensures.made path r (c.in_ok-has_unifier.ensures.some yes') in
     let block = c.in_ok-made.made.block in
     let u = made_of v c.in_ok-made.made.root in
     mother_there (rules_of c.args.library.now) c.args.library.now v c.args.limit c.args.chart.now.words es c.args.work.now.arena.lawful c.edge.ensures.edges c.requires.ready
@@ -129,12 +129,12 @@ copy-requires-clause-settled g c =
 pub place-requires-clause-old : goal.place-requires-clause-old
 place-requires-clause-old g c =
     let yes' : c.in_ok-has_unifier.field-0 ≡ true = search rules in
-    (c.in_ok-made.ensures (c.next_kind-kind.result.1.0 ∷ []) (value_of (sentence_of c.args.work.now.arena) c.edge-2.result.now.root) (c.in_ok-has_unifier.ensures.some yes')).old
+    (c.in_ok-made.ensures.made (c.next_kind-kind.result.1.0 ∷ []) (value_of (sentence_of c.args.work.now.arena) c.edge-2.result.now.root) (c.in_ok-has_unifier.ensures.some yes')).old
 
 pub place-requires-clause-fits : goal.place-requires-clause-fits
 place-requires-clause-fits g c =
     let yes' : c.in_ok-has_unifier.field-0 ≡ true = search rules in
-    (c.in_ok-made.ensures (c.next_kind-kind.result.1.0 ∷ []) (value_of (sentence_of c.args.work.now.arena) c.edge-2.result.now.root) (c.in_ok-has_unifier.ensures.some yes')).fits
+    (c.in_ok-made.ensures.made (c.next_kind-kind.result.1.0 ∷ []) (value_of (sentence_of c.args.work.now.arena) c.edge-2.result.now.root) (c.in_ok-has_unifier.ensures.some yes')).fits
 
 pub returns-clause-longer : goal.returns-clause-longer
 returns-clause-longer g c =
@@ -153,7 +153,7 @@ returns-clause-joined g c =
     let path = c.next_kind-kind.result.1.0 ∷ [] in
     let r = value_of v y.root in
     let yes' : c.in_ok-has_unifier.field-0 ≡ true = search rules in
-    let made = c.in_ok-made.ensures path r (c.in_ok-has_unifier.ensures.some yes') in
+    let made = c.in_ok-made.ensures.made path r (c.in_ok-has_unifier.ensures.some yes') in
     let block = c.in_ok-made.made.block in
     let u = made_of v c.in_ok-made.made.root in
     let pushed : w ≡ with_block v block = c.in_ok-root.ensures.pushed in

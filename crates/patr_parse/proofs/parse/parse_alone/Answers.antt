@@ -72,3 +72,8 @@ analyses_of-requires-clause-edges g c =
 
 pub returns-in-Err-clause-refused : goal.returns-in-Err-clause-refused
 returns-in-Err-clause-refused g c = c.in-Err.ensures.refused c.args.limit
+
+pub returns-clause-base : goal.returns-clause-base
+returns-clause-base g c =
+    let first = rw c.in-Some.is at c.in_ok-closed.ensures.closed in
+    first.longer

@@ -1,4 +1,4 @@
-use Rattle.std.proofs.Common.{◌≡◌, ◌≤◌, ◌+◌, ℕ, List, [], length, take}
+use Rattle.std.proofs.Common.{◌≡◌, ◌≤◌, ◌+◌, ◌*◌, ℕ, List, [], length, take}
 use Rattle.patr_model.specs.Rounds.{HasPairs}
 use Rattle.patr_arena.specs.Blocks.{Extends}
 use Rattle.patr_arena.specs.Sentences.{sentence_of}
@@ -18,4 +18,5 @@ invariant-loop-k g l = record {
   longer : Extends (sentence_of l.fn.work.arena) (sentence_of l.work.arena);
   decided : HasPairs (rules_of l.library) (take l.worked (derivations l.chart.edges)) l.fn.decided → HasPairs (rules_of l.library) (take l.k (derivations l.chart.edges)) l.decided;
   steps : l.steps + l.fn.decided ≡ l.fn.steps + l.decided;
+  count : l.decided ≤ l.k * 200000;
 }

@@ -20,8 +20,8 @@ copy_from-requires-clause-settled g c =
     let from = sym (ap (λ x. end_value v w x) (ap (value_at v) c.left_target.ensures)) ∙ end_found v w c.left_target.result (target.Place c.in-Place.root) q.2.ending c.in-Place.ensures in
     (l, q.0, q.1, held_below v s c.args.left.block c.args.left.offset c.requires.left, q.2, from)
 
-pub returns-in-Atom : goal.returns-in-Atom
-returns-in-Atom g c p r set =
+pub returns-in-Atom-clause-made : goal.returns-in-Atom-clause-made
+returns-in-Atom-clause-made g c p r set =
     let v = g.N.Nodes.shown c.args.nodes.now in
     let s = g.met.N.Nodes.lawful c.args.nodes.now in
     let w = c.args.scratch.now in
@@ -32,12 +32,12 @@ returns-in-Atom g c p r set =
     let root = ref.Atom (record { 0 = c.in-Atom.atom }) in
     subst (λ b. IsMade v l p r b root 0 0) (sym c.new.ensures) (made v s w w l p r hl set [] 0 0 has root (subst (λ x. IsEndRef v w x root) (sym from) refl))
 
-pub returns-in-Place : goal.returns-in-Place
-returns-in-Place g c p r set =
+pub returns-in-Place-clause-made : goal.returns-in-Place-clause-made
+returns-in-Place-clause-made g c p r set =
     let v = g.N.Nodes.shown c.args.nodes.now in
     let s = g.met.N.Nodes.lawful c.args.nodes.now in
     let w = c.args.scratch.now in
     let l = number_of v c.args.left.block c.args.left.offset in
     let hl = held_below v s c.args.left.block c.args.left.offset c.requires.left in
     let from = sym (ap (λ x. end_value v w x) (ap (value_at v) c.left_target.ensures)) ∙ end_found v w c.left_target.result (target.Place c.in-Place.root) set.ending c.in-Place.ensures in
-    c.copy_from.ensures l p r hl set from
+    c.copy_from.ensures.made l p r hl set from

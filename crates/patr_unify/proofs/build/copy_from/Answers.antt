@@ -1,4 +1,4 @@
-use Rattle.std.proofs.Common.{◌∙◌, ◌∷◌, ◌++◌, [], sym, ap, subst}
+use Rattle.std.proofs.Common.{rules, ◌∙◌, ◌∷◌, ◌++◌, [], sym, ap, subst}
 use Rattle.patr_scratch.specs.declared.Visit.TheVariants as visit
 use Rattle.patr_unify.specs.Walking.{VisitsHeld, stack_of}
 use Rattle.patr_unify.proofs.Worked.{HasCopied, worked_ends, worked_held}
@@ -28,6 +28,7 @@ loop-top-init g c =
       held = subst (VisitsHeld v) (sym only) (c.requires.root, tt);
       paused = paused_starts v visit.Entered t c.args.root only (c.enter.ensures.pairs ∙ q.4.no_pairs);
       copied = λ l p r hl set from. subst (λ b. HasCopied v w t l r b 0 0 (stack_of v t.visits)) (sym c.new.ensures) (starts v s w l p r hl set t c.args.root from c.enter.ensures.visited c.enter.ensures.pushed);
+      room = search rules;
     }
 
 pub go_on-requires-clause-top : goal.go_on-requires-clause-top
@@ -108,7 +109,7 @@ loop-top-smaller g c =
     let u = c.pop_visit.new.self in
     let d = c.loop-top.draft in
     let popped = held_popped v u.visits c.in-Some.top (subst (VisitsHeld v) c.in-Some.ensures.last c.loop-top.invariant.held) in
-    going_falls v s t u c.go_on.new.scratch c.in-Some.top d c.go_on.new.draft c.in_ok-from.from c.in-Some.ensures.rest c.in-Some.ensures.last c.in_ok-from.ensures
+    going_falls v s t u c.go_on.new.scratch c.in-Some.top d c.go_on.new.draft c.in_ok-from.from c.in-Some.ensures.rest c.in-Some.ensures.last c.in_ok-from.ensures.gone
 
 pub loop-top-preserved : goal.loop-top-preserved
 loop-top-preserved g c =
@@ -121,10 +122,11 @@ loop-top-preserved g c =
     let popped = held_popped v u.visits c.in-Some.top (subst (VisitsHeld v) c.in-Some.ensures.last c.loop-top.invariant.held) in
     record {
       paused = gone_paused v u c.go_on.new.scratch c.in-Some.top d c.go_on.new.draft c.loop-top.from c.in_ok-from.from
-          (paused_popped v visit.Entered t u c.in-Some.top c.loop-top.from c.loop-top.invariant.paused c.in-Some.ensures.rest c.in-Some.ensures.last) c.in_ok-from.ensures;
-      held = gone_held v u c.go_on.new.scratch c.in-Some.top d c.go_on.new.draft c.in_ok-from.from popped.1 popped.0 c.in_ok-from.ensures;
+          (paused_popped v visit.Entered t u c.in-Some.top c.loop-top.from c.loop-top.invariant.paused c.in-Some.ensures.rest c.in-Some.ensures.last) c.in_ok-from.ensures.gone;
+      held = gone_held v u c.go_on.new.scratch c.in-Some.top d c.go_on.new.draft c.in_ok-from.from popped.1 popped.0 c.in_ok-from.ensures.gone;
       copied = λ l p r hl set from. turned v s w l p r hl set u c.go_on.new.scratch c.in-Some.top d c.go_on.new.draft c.in_ok-from.from popped.1
-          (at_top v s w l p r hl set t u c.in-Some.top d.block d.nodes d.arcs (c.loop-top.invariant.copied l p r hl set from) c.in-Some.ensures.rest c.in-Some.ensures.last) c.in_ok-from.ensures;
+          (at_top v s w l p r hl set t u c.in-Some.top d.block d.nodes d.arcs (c.loop-top.invariant.copied l p r hl set from) c.in-Some.ensures.rest c.in-Some.ensures.last) c.in_ok-from.ensures.gone;
+      room = search rules;
     }
 
 pub end_ref-made-requires-clause-held : goal.end_ref-made-requires-clause-held
@@ -151,8 +153,8 @@ end_ref-made-requires-clause-ending g c =
     let has = copied_moved v w t u q.0 q.2 d.block d.nodes d.arcs (stack_of v t.visits) u.visits t.pairs (c.loop-top.invariant.copied q.0 q.1 q.2 q.3 q.4 q.5) c.pop_visit.ensures.rest in
     worked_ends v w u has.still q.4.ending
 
-pub returns : goal.returns
-returns g c l p r hl set from =
+pub returns-clause-made : goal.returns-clause-made
+returns-clause-made g c l p r hl set from =
     let v = g.N.Nodes.shown c.args.nodes.now in
     let s = g.met.N.Nodes.lawful c.args.nodes.now in
     let w = c.args.scratch.now in

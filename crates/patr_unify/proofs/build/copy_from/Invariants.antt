@@ -1,6 +1,7 @@
 use Rattle.std.proofs.Common.{◌≡◌, ◌<◌, ◌+◌, ◌*◌, ℕ, List, length}
 use Rattle.patr_model.specs.Structure.{Node, Value}
 use Rattle.patr_marks.specs.Machine.{total}
+use Rattle.patr_scratch.specs.Contents.{KeepsRoom}
 use Rattle.patr_unify.specs.Deciding.{IsSettledFor}
 use Rattle.patr_unify.specs.Reading.{key}
 use Rattle.patr_unify.specs.Stepping.{upto}
@@ -19,6 +20,7 @@ invariant-loop-top g q =
       paused : ArePaused v q.scratch visit.Entered (stack_of v q.scratch.visits) q.from (cursors_of q.scratch.pairs);
       copied : (l : ℕ) (p : List ℕ) (r : Value) → l < length v.structure → IsSettledFor v w l p r → end_value v w (Node l) ≡ Node (key v q.root)
           → HasCopied v w q.scratch l r q.draft.block q.draft.nodes q.draft.arcs (stack_of v q.scratch.visits);
+      room : KeepsRoom w q.scratch;
     }
 
 abbrev pub decreases-loop-top : goal.decreases-loop-top

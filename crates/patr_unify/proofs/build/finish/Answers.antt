@@ -7,8 +7,8 @@ use Rattle.patr_unify.specs.Reading.{key}
 use Rattle.patr_unify.proofs.Copies.{own_length}
 use Rattle.patr_unify.proofs.build.finish.Goals as goal
 
-pub returns-then-may_stay : goal.returns-then-may_stay
-returns-then-may_stay g c =
+pub returns-then-may_stay-clause-finished : goal.returns-then-may_stay-clause-finished
+returns-then-may_stay-clause-finished g c =
     let v = g.N.Nodes.shown c.args.nodes.now in
     let w = c.args.scratch.now in
     let p = c.args.top in

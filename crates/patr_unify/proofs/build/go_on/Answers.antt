@@ -11,7 +11,7 @@ go_down-requires-clause-pairs g c =
     let f = c.in-Some.ensures.0 in
     (c.requires.room f.0 f.1 c.in-Some.found.place f.2 f.3).1
 
-pub returns-in-Some : goal.returns-in-Some
-returns-in-Some g c =
+pub returns-in-Some-clause-gone : goal.returns-in-Some-clause-gone
+returns-in-Some-clause-gone g c =
     let f = c.in-Some.ensures.0 in
     inl ((f.0, f.1, c.in-Some.found.place, f.2, f.3, c.go_down.ensures.visited, c.go_down.ensures.pushed, c.in-Some.found.from, c.in-Some.ensures.1, c.go_down.ensures.put), refl, refl)

@@ -1,4 +1,4 @@
-use Rattle.std.proofs.Common.{◌+◌, ◌*◌, ◌<◌, Bool, length, sym, subst}
+use Rattle.std.proofs.Common.{rules, ◌+◌, ◌*◌, ◌<◌, Bool, length, sym, subst}
 use Rattle.patr_marks.specs.Machine.{total}
 use Rattle.patr_scratch.specs.Contents.{Contents}
 use Rattle.patr_unify.specs.Stepping.{IsRunning, Outcome, weight_of, upto}
@@ -11,7 +11,7 @@ settle-requires-clause-a g c =
     let t = c.pop_pair.new.self in
     let eq = was_pushed c.loop-a.scratch t (c.in-Some.a, c.in-Some.b) c.in-Some.ensures.rest c.in-Some.ensures.last in
     let q = c.requires in
-    let run = subst (λ (z : Contents). IsRunning v z q.0 q.1 q.2 q.3) eq (c.loop-a.invariant q.0 q.1 q.2 q.3 q.4 q.5) in
+    let run = subst (λ (z : Contents). IsRunning v z q.0 q.1 q.2 q.3) eq (c.loop-a.invariant.running q.0 q.1 q.2 q.3 q.4 q.5) in
     (pair_held v t.pairs (c.in-Some.a, c.in-Some.b) run.pairs_held).1
 
 pub settle-requires-clause-b : goal.settle-requires-clause-b
@@ -20,7 +20,7 @@ settle-requires-clause-b g c =
     let t = c.pop_pair.new.self in
     let eq = was_pushed c.loop-a.scratch t (c.in-Some.a, c.in-Some.b) c.in-Some.ensures.rest c.in-Some.ensures.last in
     let q = c.requires in
-    let run = subst (λ (z : Contents). IsRunning v z q.0 q.1 q.2 q.3) eq (c.loop-a.invariant q.0 q.1 q.2 q.3 q.4 q.5) in
+    let run = subst (λ (z : Contents). IsRunning v z q.0 q.1 q.2 q.3) eq (c.loop-a.invariant.running q.0 q.1 q.2 q.3 q.4 q.5) in
     (pair_held v t.pairs (c.in-Some.a, c.in-Some.b) run.pairs_held).2
 
 pub settle-requires-clause-held : goal.settle-requires-clause-held
@@ -29,7 +29,7 @@ settle-requires-clause-held g c =
     let t = c.pop_pair.new.self in
     let eq = was_pushed c.loop-a.scratch t (c.in-Some.a, c.in-Some.b) c.in-Some.ensures.rest c.in-Some.ensures.last in
     let q = c.requires in
-    let run = subst (λ (z : Contents). IsRunning v z q.0 q.1 q.2 q.3) eq (c.loop-a.invariant q.0 q.1 q.2 q.3 q.4 q.5) in
+    let run = subst (λ (z : Contents). IsRunning v z q.0 q.1 q.2 q.3) eq (c.loop-a.invariant.running q.0 q.1 q.2 q.3 q.4 q.5) in
     still_held v t c.in-Some.a c.in-Some.b q.0 q.1 q.2 q.3 run
 
 pub settle-requires-clause-pairs_held : goal.settle-requires-clause-pairs_held
@@ -38,7 +38,7 @@ settle-requires-clause-pairs_held g c =
     let t = c.pop_pair.new.self in
     let eq = was_pushed c.loop-a.scratch t (c.in-Some.a, c.in-Some.b) c.in-Some.ensures.rest c.in-Some.ensures.last in
     let q = c.requires in
-    let run = subst (λ (z : Contents). IsRunning v z q.0 q.1 q.2 q.3) eq (c.loop-a.invariant q.0 q.1 q.2 q.3 q.4 q.5) in
+    let run = subst (λ (z : Contents). IsRunning v z q.0 q.1 q.2 q.3) eq (c.loop-a.invariant.running q.0 q.1 q.2 q.3 q.4 q.5) in
     (pair_held v t.pairs (c.in-Some.a, c.in-Some.b) run.pairs_held).0
 
 pub settle-requires-clause-log : goal.settle-requires-clause-log
@@ -47,7 +47,7 @@ settle-requires-clause-log g c =
     let t = c.pop_pair.new.self in
     let eq = was_pushed c.loop-a.scratch t (c.in-Some.a, c.in-Some.b) c.in-Some.ensures.rest c.in-Some.ensures.last in
     let q = c.requires in
-    let run = subst (λ (z : Contents). IsRunning v z q.0 q.1 q.2 q.3) eq (c.loop-a.invariant q.0 q.1 q.2 q.3 q.4 q.5) in
+    let run = subst (λ (z : Contents). IsRunning v z q.0 q.1 q.2 q.3) eq (c.loop-a.invariant.running q.0 q.1 q.2 q.3 q.4 q.5) in
     log_there v t c.in-Some.a c.in-Some.b q.0 q.1 q.2 q.3 q.4 run
 
 pub returns-then-not-settle-clause-clash : goal.returns-then-not-settle-clause-clash
@@ -55,7 +55,7 @@ returns-then-not-settle-clause-clash g c _ l r target ks covers start =
     let v = g.N.Nodes.shown c.args.nodes.now in
     let t = c.pop_pair.new.self in
     let eq = was_pushed c.loop-a.scratch t (c.in-Some.a, c.in-Some.b) c.in-Some.ensures.rest c.in-Some.ensures.last in
-    let run = subst (λ (z : Contents). IsRunning v z l r target ks) eq (c.loop-a.invariant l r target ks covers start) in
+    let run = subst (λ (z : Contents). IsRunning v z l r target ks) eq (c.loop-a.invariant.running l r target ks covers start) in
     let out = subst (λ (b : Bool). Outcome v t c.settle.new.scratch run.log c.in-Some.a c.in-Some.b b) c.if-not-settle.true (c.settle.ensures.outcome run.log (same_log v t c.in-Some.a c.in-Some.b run.log run.has_log)) in
     clash_refutes v t c.settle.new.scratch c.in-Some.a c.in-Some.b l r target ks run (g.met.N.Nodes.lawful c.args.nodes.now) out
 
@@ -65,16 +65,20 @@ loop-a-smaller g c =
     let t = c.pop_pair.new.self in
     let eq = was_pushed c.loop-a.scratch t (c.in-Some.a, c.in-Some.b) c.in-Some.ensures.rest c.in-Some.ensures.last in
     let q = c.requires in
-    let run = subst (λ (z : Contents). IsRunning v z q.0 q.1 q.2 q.3) eq (c.loop-a.invariant q.0 q.1 q.2 q.3 q.4 q.5) in
+    let run = subst (λ (z : Contents). IsRunning v z q.0 q.1 q.2 q.3) eq (c.loop-a.invariant.running q.0 q.1 q.2 q.3 q.4 q.5) in
     let out = subst (λ (b : Bool). Outcome v t c.settle.new.scratch run.log c.in-Some.a c.in-Some.b b) c.if-not-settle.false (c.settle.ensures.outcome run.log (same_log v t c.in-Some.a c.in-Some.b run.log run.has_log)) in
     subst (λ (z : Contents). total (weight_of v c.settle.new.scratch) (upto (2 * length v.structure)) + length c.settle.new.scratch.pairs < total (weight_of v z) (upto (2 * length v.structure)) + length z.pairs) (sym eq)
     (falls_on v t c.settle.new.scratch c.in-Some.a c.in-Some.b q.0 q.1 q.2 q.3 run out)
 
 pub loop-a-preserved : goal.loop-a-preserved
-loop-a-preserved g c l r target ks covers start =
+loop-a-preserved g c =
     let v = g.N.Nodes.shown c.args.nodes.now in
     let t = c.pop_pair.new.self in
     let eq = was_pushed c.loop-a.scratch t (c.in-Some.a, c.in-Some.b) c.in-Some.ensures.rest c.in-Some.ensures.last in
-    let run = subst (λ (z : Contents). IsRunning v z l r target ks) eq (c.loop-a.invariant l r target ks covers start) in
-    let out = subst (λ (b : Bool). Outcome v t c.settle.new.scratch run.log c.in-Some.a c.in-Some.b b) c.if-not-settle.false (c.settle.ensures.outcome run.log (same_log v t c.in-Some.a c.in-Some.b run.log run.has_log)) in
-    running_on v t c.settle.new.scratch c.in-Some.a c.in-Some.b l r target ks run covers c.settle.ensures.steady out
+    record {
+      running = λ l r target ks covers start.
+          (let run = subst (λ (z : Contents). IsRunning v z l r target ks) eq (c.loop-a.invariant.running l r target ks covers start) in
+          let out = subst (λ (b : Bool). Outcome v t c.settle.new.scratch run.log c.in-Some.a c.in-Some.b b) c.if-not-settle.false (c.settle.ensures.outcome run.log (same_log v t c.in-Some.a c.in-Some.b run.log run.has_log)) in
+          running_on v t c.settle.new.scratch c.in-Some.a c.in-Some.b l r target ks run covers c.settle.ensures.steady out);
+      room = search rules;
+    }

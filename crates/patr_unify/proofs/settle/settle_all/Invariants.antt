@@ -1,13 +1,17 @@
 use Rattle.std.proofs.Common.{ℕ, List, ◌+◌, ◌*◌, length}
 use Rattle.patr_model.specs.Structure.{Value}
 use Rattle.patr_marks.specs.Machine.{total}
+use Rattle.patr_scratch.specs.Contents.{KeepsRoom}
 use Rattle.patr_unify.specs.Stepping.{Covers, IsRunning, weight_of, upto}
 use Rattle.patr_unify.proofs.settle.settle_all.Given as goal
 
 abbrev pub invariant-loop-a : goal.invariant-loop-a
 invariant-loop-a g l =
     let v = g.N.Nodes.shown l.nodes in
-    (k : ℕ) (r target : Value) (ks : List ℕ) → Covers v k r ks → IsRunning v l.initial.scratch k r target ks → IsRunning v l.scratch k r target ks
+    record {
+      running : (k : ℕ) (r target : Value) (ks : List ℕ) → Covers v k r ks → IsRunning v l.initial.scratch k r target ks → IsRunning v l.scratch k r target ks;
+      room : KeepsRoom l.fn.scratch l.scratch;
+    }
 
 abbrev pub decreases-loop-a : goal.decreases-loop-a
 decreases-loop-a g l =

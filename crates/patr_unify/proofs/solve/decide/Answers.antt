@@ -79,7 +79,7 @@ returns-then-not-walk-clause-none g c e =
     let done = c.settle_all.ensures.done c.if-not-settle_all.false l r (value_of v x) ks starts.0 starts.1 in
     let u = c.settle_all.new.scratch in
     let start = walkable v s u l r (value_of v x) ks starts.0 done.0 done.1 in
-    let back = subst (λ (b : Bool). IsWalked v u c.walk.new.scratch l start b) c.if-not-walk.true (c.walk.ensures start) in
+    let back = subst (λ (b : Bool). IsWalked v u c.walk.new.scratch l start b) c.if-not-walk.true (c.walk.ensures.walked start) in
     circle_refutes v s u l r (value_of v x) ks starts.0 done.0 done.1 hl (value_below v s x c.in-Some.ensures.held) p there back
 
 pub returns-clause-solvable : goal.returns-clause-solvable
@@ -101,5 +101,5 @@ returns-clause-solvable g c e =
     let u = c.settle_all.new.scratch in
     let t = c.walk.new.scratch in
     let start = walkable v s u l r (value_of v x) ks starts.0 done.0 done.1 in
-    let off = subst (λ (b : Bool). IsWalked v u t l start b) c.if-not-walk.false (c.walk.ensures start) in
+    let off = subst (λ (b : Bool). IsWalked v u t l start b) c.if-not-walk.false (c.walk.ensures.walked start) in
     settled_for v s u t l r (value_of v x) ks starts.0 done.0 hl (value_below v s x c.in-Some.ensures.held) p there done.1 off (value_below v s c.args.right c.requires.right) (room_stays v s w u t l r hl room done.0.rooms off.still)

@@ -12,8 +12,8 @@ pub visit-visit-requires : goal.visit-visit-requires
 visit-visit-requires g c =
     place_room (g.N.Nodes.shown c.args.nodes.now) c.args.scratch.now (g.met.N.Nodes.lawful c.args.nodes.now) c.requires.held c.in-Some.found.place c.number.result c.in-Some.ensures.0.3.0 c.number.ensures
 
-pub returns-then-same_visit : goal.returns-then-same_visit
-returns-then-same_visit g c =
+pub returns-then-same_visit-clause-turned : goal.returns-then-same_visit-clause-turned
+returns-then-same_visit-clause-turned g c =
     let v = g.N.Nodes.shown c.args.nodes.now in
     let p = c.in-Some.found.place in
     let f = c.in-Some.ensures.0 in
@@ -36,8 +36,8 @@ go_down-requires-clause-pairs g c =
     let state = visit_is v c.args.scratch.now (g.met.N.Nodes.lawful c.args.nodes.now) p c.number.result c.visit-visit.result f.3.0 c.number.ensures c.visit-visit.ensures in
     (c.requires.room f.0 f.1 p f.2 f.3 (λ e. c.same_visit.ensures.apart c.if-same_visit.false (state ∙ e))).1
 
-pub returns-else-same_visit : goal.returns-else-same_visit
-returns-else-same_visit g c =
+pub returns-else-same_visit-clause-turned : goal.returns-else-same_visit-clause-turned
+returns-else-same_visit-clause-turned g c =
     let v = g.N.Nodes.shown c.args.nodes.now in
     let p = c.in-Some.found.place in
     let f = c.in-Some.ensures.0 in
@@ -59,8 +59,8 @@ returns-else-same_visit g c =
       refl,
     )
 
-pub returns-in-None : goal.returns-in-None
-returns-in-None g c =
+pub returns-in-None-clause-turned : goal.returns-in-None-clause-turned
+returns-in-None-clause-turned g c =
     let v = g.N.Nodes.shown c.args.nodes.now in
     let w = c.args.scratch.now in
     let u = c.set_visit.new.self in

@@ -1,4 +1,4 @@
-use Rattle.std.proofs.Common.{inl, inr, refl, sym, ap, subst}
+use Rattle.std.proofs.Common.{rules, inl, inr, refl, sym, ap, subst}
 use Rattle.patr_arena.specs.Shown.{number_of}
 use Rattle.patr_scratch.specs.declared.Target.TheVariants as target
 use Rattle.patr_unify.specs.Reading.{key, value_at}
@@ -12,8 +12,8 @@ end_of-requires-clause-ending g c =
     let v = g.N.Nodes.shown c.args.nodes.now in
     log_ends v c.args.scratch.now c.requires.start.log c.requires.start.has_log c.requires.start.short (value_at v c.left_target.result)
 
-pub returns-in_default : goal.returns-in_default
-returns-in_default g c i =
+pub returns-in_default-clause-walked : goal.returns-in_default-clause-walked
+returns-in_default-clause-walked g c i =
     let v = g.N.Nodes.shown c.args.nodes.now in
     let w = c.args.scratch.now in
     let l = number_of v c.args.left.block c.args.left.offset in
@@ -28,12 +28,16 @@ enter-requires-clause-room g c =
     root_room v w l i (key v c.in-Place.root) (root_is v w l i c.left_target.result (target.Place c.in-Place.root) (ap (value_at v) c.left_target.ensures) c.in-Place.ensures).0
 
 pub loop-top-init : goal.loop-top-init
-loop-top-init g c i =
+loop-top-init g c =
     let v = g.N.Nodes.shown c.args.nodes.now in
     let w = c.args.scratch.now in
     let l = number_of v c.args.left.block c.args.left.offset in
-    let root = root_is v w l i c.left_target.result (target.Place c.in-Place.root) (ap (value_at v) c.left_target.ensures) c.in-Place.ensures in
-    walked_starts v w c.enter.new.scratch l i c.in-Place.root c.in-Place.ensures.held root.0 root.1 c.enter.ensures.visited c.enter.ensures.pushed c.enter.ensures.pairs
+    record {
+      walked = λ i.
+          (let root = root_is v w l i c.left_target.result (target.Place c.in-Place.root) (ap (value_at v) c.left_target.ensures) c.in-Place.ensures in
+          walked_starts v w c.enter.new.scratch l i c.in-Place.root c.in-Place.ensures.held root.0 root.1 c.enter.ensures.visited c.enter.ensures.pushed c.enter.ensures.pairs);
+      room = search rules;
+    }
 
 pub go_on-requires-clause-top : goal.go_on-requires-clause-top
 go_on-requires-clause-top g c =
@@ -41,7 +45,7 @@ go_on-requires-clause-top g c =
     let w = c.args.scratch.now in
     let l = number_of v c.args.left.block c.args.left.offset in
     let i = c.requires.start in
-    (at_place v w c.loop-top.scratch c.pop_visit.new.self l i c.in-Some.top c.loop-top.from (c.loop-top.invariant i) c.in-Some.ensures.rest c.in-Some.ensures.last).top_held
+    (at_place v w c.loop-top.scratch c.pop_visit.new.self l i c.in-Some.top c.loop-top.from (c.loop-top.invariant.walked i) c.in-Some.ensures.rest c.in-Some.ensures.last).top_held
 
 pub go_on-requires-clause-held : goal.go_on-requires-clause-held
 go_on-requires-clause-held g c =
@@ -49,7 +53,7 @@ go_on-requires-clause-held g c =
     let w = c.args.scratch.now in
     let l = number_of v c.args.left.block c.args.left.offset in
     let i = c.requires.start in
-    let at = at_place v w c.loop-top.scratch c.pop_visit.new.self l i c.in-Some.top c.loop-top.from (c.loop-top.invariant i) c.in-Some.ensures.rest c.in-Some.ensures.last in
+    let at = at_place v w c.loop-top.scratch c.pop_visit.new.self l i c.in-Some.top c.loop-top.from (c.loop-top.invariant.walked i) c.in-Some.ensures.rest c.in-Some.ensures.last in
     still_held v w c.pop_visit.new.self at.has.still i.held
 
 pub go_on-requires-clause-ending : goal.go_on-requires-clause-ending
@@ -58,7 +62,7 @@ go_on-requires-clause-ending g c =
     let w = c.args.scratch.now in
     let l = number_of v c.args.left.block c.args.left.offset in
     let i = c.requires.start in
-    let at = at_place v w c.loop-top.scratch c.pop_visit.new.self l i c.in-Some.top c.loop-top.from (c.loop-top.invariant i) c.in-Some.ensures.rest c.in-Some.ensures.last in
+    let at = at_place v w c.loop-top.scratch c.pop_visit.new.self l i c.in-Some.top c.loop-top.from (c.loop-top.invariant.walked i) c.in-Some.ensures.rest c.in-Some.ensures.last in
     still_ends v w c.pop_visit.new.self l i at.has.still
 
 pub go_on-requires-clause-room : goal.go_on-requires-clause-room
@@ -67,7 +71,7 @@ go_on-requires-clause-room g c =
     let w = c.args.scratch.now in
     let l = number_of v c.args.left.block c.args.left.offset in
     let i = c.requires.start in
-    let at = at_place v w c.loop-top.scratch c.pop_visit.new.self l i c.in-Some.top c.loop-top.from (c.loop-top.invariant i) c.in-Some.ensures.rest c.in-Some.ensures.last in
+    let at = at_place v w c.loop-top.scratch c.pop_visit.new.self l i c.in-Some.top c.loop-top.from (c.loop-top.invariant.walked i) c.in-Some.ensures.rest c.in-Some.ensures.last in
     has_room v w c.pop_visit.new.self l i c.in-Some.top c.loop-top.from at
 
 pub go_on-requires-clause-paused : goal.go_on-requires-clause-paused
@@ -76,17 +80,17 @@ go_on-requires-clause-paused g c =
     let w = c.args.scratch.now in
     let l = number_of v c.args.left.block c.args.left.offset in
     let i = c.requires.start in
-    let at = at_place v w c.loop-top.scratch c.pop_visit.new.self l i c.in-Some.top c.loop-top.from (c.loop-top.invariant i) c.in-Some.ensures.rest c.in-Some.ensures.last in
+    let at = at_place v w c.loop-top.scratch c.pop_visit.new.self l i c.in-Some.top c.loop-top.from (c.loop-top.invariant.walked i) c.in-Some.ensures.rest c.in-Some.ensures.last in
     at.paused.0
 
-pub returns-in_default-go_on : goal.returns-in_default-go_on
-returns-in_default-go_on g c i =
+pub returns-in_default-go_on-clause-walked : goal.returns-in_default-go_on-clause-walked
+returns-in_default-go_on-clause-walked g c i =
     let v = g.N.Nodes.shown c.args.nodes.now in
     let w = c.args.scratch.now in
     let t = c.pop_visit.new.self in
     let l = number_of v c.args.left.block c.args.left.offset in
-    let at = at_place v w c.loop-top.scratch t l i c.in-Some.top c.loop-top.from (c.loop-top.invariant i) c.in-Some.ensures.rest c.in-Some.ensures.last in
-    led_back v w t l i c.in-Some.top c.loop-top.from at (not_turned v t c.go_on.new.scratch c.in-Some.top c.go_on.result c.go_on.ensures c.in_default-go_on.not-Some)
+    let at = at_place v w c.loop-top.scratch t l i c.in-Some.top c.loop-top.from (c.loop-top.invariant.walked i) c.in-Some.ensures.rest c.in-Some.ensures.last in
+    led_back v w t l i c.in-Some.top c.loop-top.from at (not_turned v t c.go_on.new.scratch c.in-Some.top c.go_on.result c.go_on.ensures.turned c.in_default-go_on.not-Some)
 
 pub loop-top-smaller : goal.loop-top-smaller
 loop-top-smaller g c =
@@ -95,26 +99,30 @@ loop-top-smaller g c =
     let t = c.pop_visit.new.self in
     let l = number_of v c.args.left.block c.args.left.offset in
     let i = c.requires.start in
-    let at = at_place v w c.loop-top.scratch t l i c.in-Some.top c.loop-top.from (c.loop-top.invariant i) c.in-Some.ensures.rest c.in-Some.ensures.last in
+    let at = at_place v w c.loop-top.scratch t l i c.in-Some.top c.loop-top.from (c.loop-top.invariant.walked i) c.in-Some.ensures.rest c.in-Some.ensures.last in
     turn_falls v (g.met.N.Nodes.lawful c.args.nodes.now) c.loop-top.scratch t c.go_on.new.scratch c.in-Some.top at.top_held (at.has.entered (key v c.in-Some.top) (inl refl)) c.in-Some.ensures.rest c.in-Some.ensures.last
-    c.in-Some-go_on.next c.in-Some-go_on.ensures
+    c.in-Some-go_on.next c.in-Some-go_on.ensures.turned
 
 pub loop-top-preserved : goal.loop-top-preserved
-loop-top-preserved g c i =
+loop-top-preserved g c =
     let v = g.N.Nodes.shown c.args.nodes.now in
     let w = c.args.scratch.now in
     let t = c.pop_visit.new.self in
     let l = number_of v c.args.left.block c.args.left.offset in
-    let at = at_place v w c.loop-top.scratch t l i c.in-Some.top c.loop-top.from (c.loop-top.invariant i) c.in-Some.ensures.rest c.in-Some.ensures.last in
-    elim c.in-Some-go_on.ensures [
-      | inl left ↦ left_on v w t l i c.in-Some.top c.loop-top.from at c.go_on.new.scratch c.in-Some-go_on.next left
-      | inr entered ↦ subst (HasWalked v w c.go_on.new.scratch l i) (sym entered.1) (entered_on v w t l i c.in-Some.top c.loop-top.from at c.go_on.new.scratch entered.0)
-    ]
+    record {
+      walked = λ i.
+          (let at = at_place v w c.loop-top.scratch t l i c.in-Some.top c.loop-top.from (c.loop-top.invariant.walked i) c.in-Some.ensures.rest c.in-Some.ensures.last in
+          elim c.in-Some-go_on.ensures.turned [
+            | inl left ↦ left_on v w t l i c.in-Some.top c.loop-top.from at c.go_on.new.scratch c.in-Some-go_on.next left
+            | inr entered ↦ subst (HasWalked v w c.go_on.new.scratch l i) (sym entered.1) (entered_on v w t l i c.in-Some.top c.loop-top.from at c.go_on.new.scratch entered.0)
+          ]);
+      room = search rules;
+    }
 
-pub returns : goal.returns
-returns g c i =
+pub returns-clause-walked : goal.returns-clause-walked
+returns-clause-walked g c i =
     let v = g.N.Nodes.shown c.args.nodes.now in
     let w = c.args.scratch.now in
     let l = number_of v c.args.left.block c.args.left.offset in
     let none = none_popped c.loop-top.scratch c.pop_visit.new.self c.pop_visit.result c.pop_visit.ensures.last c.in_default-pop_visit.not-Some in
-    walked_off v w c.loop-top.scratch c.pop_visit.new.self l i c.loop-top.from (c.loop-top.invariant i) c.pop_visit.ensures.rest none.0 none.1
+    walked_off v w c.loop-top.scratch c.pop_visit.new.self l i c.loop-top.from (c.loop-top.invariant.walked i) c.pop_visit.ensures.rest none.0 none.1
