@@ -1,3 +1,4 @@
+//! Tests of the public calls, and worked examples in tables.
 ghost use Rattle.std.specs.Prelude.{◌≡◌, ◌<◌, IfSome};
 ghost use Rattle.patr_chart.specs.Charted.{IsEdgeAfter, IsNext};
 

@@ -1,3 +1,4 @@
+//! Tests of the public calls, and worked examples in tables.
 ghost use Rattle.std.specs.Prelude.{◌+◌, ◌-◌, ◌^◌, ◌<◌, length};
 
 use super::*;

@@ -1,4 +1,4 @@
-//! The features of a record.
+//! The features of a record: pieces of lines, whose tokens are cut from the whole text, each once, when the record ends.
 ghost use Rattle.std.specs.Prelude.{◌≡◌, ◌+◌, ◌-◌, ◌^◌, ◌<◌, ◌≤◌, ◌++◌, ◌∷◌, [], length, IfOk, IfErr, OnOk, Ok};
 ghost use Rattle.std.specs.List.{All};
 ghost use Rattle.patr_model.specs.Built.{stage};

@@ -1,4 +1,4 @@
-//! A gloss while it is read.
+//! A gloss while it is joined from its lines.
 ghost use Rattle.std.specs.Prelude.{◌≡◌, [], ◌∷◌, ◌++◌, OnOk};
 ghost use Rattle.std.specs.String.{string_bytes};
 ghost use Rattle.patr_model.specs.LexiconText.{spaced};

@@ -1,4 +1,4 @@
-//! The lines of a lexicon.
+//! The lines of a lexicon: their kinds, their pieces, and places in them.
 ghost use Rattle.std.specs.Prelude.{◌≡◌, ◌+◌, ◌-◌, ◌∷◌, ◌++◌, ◌<◌, ◌≤◌, ◌^◌, length, nat_eq, drop, IfSome, ℕ, false, ◌&&◌};
 ghost use Rattle.std.specs.Option.{option_map};
 ghost use Rattle.std.specs.List.{prefix_len, suffix_len};

@@ -1,4 +1,4 @@
-//! How far a lexicon is read.
+//! How far a lexicon is read, and what a line makes of that.
 ghost use Rattle.std.specs.Prelude.{◌≡◌, ◌+◌, ◌-◌, ◌^◌, ◌<◌, ◌≤◌, ◌∷◌, [], List, ℕ, length, IfOk};
 ghost use Rattle.patr_model.specs.declared.field.Marker.TheVariants as markers;
 ghost use Rattle.patr_model.specs.LexiconLines.{Fields, kind, line_at, line_before};

@@ -1,3 +1,4 @@
+//! Tests of the public calls, and worked examples in tables.
 use super::*;
 use patr_grammar::{Element, PathText, TermText};
 use patr_text::{Fault, Id, Symbols};

@@ -1,4 +1,4 @@
-//! The words of a text, as far as they matter.
+//! How many words a text has, and the word where it is the only one.
 ghost use Rattle.std.specs.Prelude.{◌≡◌};
 ghost use Rattle.patr_model.specs.Session.{words_of};
 ghost use Rattle.patr_lexicon.specs.Split.{between_tabs};

@@ -1,4 +1,4 @@
-//! The items of variants.
+//! The items of a variant, of a rule and of all rules; each least value is one block of the library's arena.
 ghost use Rattle.std.specs.Prelude.{◌≡◌, ◌<◌, None, Some, IfErr, IfOk, OnOk, length, map, slice_get};
 ghost use Rattle.patr_grammar.specs.declared.grammar.RuleText.{RuleText};
 ghost use Rattle.patr_grammar.specs.Reading.{rule_seen};

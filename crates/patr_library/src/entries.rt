@@ -1,4 +1,4 @@
-//! The items of entries.
+//! The items of entries, each solved like a rule of one constituent.
 ghost use Rattle.std.specs.Prelude.{◌≡◌, ◌<◌, ◌≤◌, ◌^◌, ◌++◌, ◌∷◌, [], None, Some, IfErr, IfOk, length, map};
 ghost use Rattle.std.specs.List.{AllByRecursion};
 ghost use Rattle.patr_model.specs.Derivation.{EntryVariant};

@@ -1,4 +1,4 @@
-//! The items of a grammar and a lexicon.
+//! The items of all rules and then of all entries in one arena, and the keys by which they are found.
 ghost use Rattle.std.specs.Prelude.{◌≡◌, ◌<◌, ◌^◌, ℕ, List, None, Some, IfErr, IfOk, length, map};
 ghost use Rattle.patr_model.specs.Build.{build_fault, entries_fault, rules_fault};
 ghost use Rattle.patr_grammar.specs.Reading.{rule_seen};

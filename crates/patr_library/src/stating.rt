@@ -1,4 +1,4 @@
-//! Equations as small structures.
+//! An equation as a small structure: a path to an atom, or two paths to one unspecified node.
 ghost use Rattle.std.specs.Prelude.{◌≡◌, ◌++◌, ◌∷◌, [], ◌<◌, ◌≤◌, None, Some, IfOk, IfSome, IfNone, length, take, slice_get};
 ghost use Rattle.std.specs.List.Sorted.{IsStrictlyIncreasing};
 ghost use Rattle.patr_model.specs.EquationStructures.{forked, one_place};

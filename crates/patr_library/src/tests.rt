@@ -7,9 +7,7 @@ ghost use Rattle.patr_library.specs.Own.{IsRooted};
 use super::*;
 use crate::solving::Least;
 use crate::stating::top;
-use patr_arena::{
-    Addr, Block, Feature, Nodes, PlainArena, Ref, SentenceArena, Value, maps_into,
-};
+use patr_arena::{Addr, Block, Feature, Nodes, PlainArena, Ref, SentenceArena, Value, maps_into};
 use patr_expand::ExpandCause;
 use patr_grammar::read_grammar;
 use patr_lexicon::read_lexicon;
@@ -50,7 +48,12 @@ fn symbols(alloc: Global) -> Result<Symbols, Memory> {
 }
 
 /// The library of a grammar and a lexicon.
-fn library<A: Abort>(rt: &A, alloc: Global, grammar: &[u8], lexicon: &[u8]) -> Result<Result<Library, BuildFault>, Fail> {
+fn library<A: Abort>(
+    rt: &A,
+    alloc: Global,
+    grammar: &[u8],
+    lexicon: &[u8],
+) -> Result<Result<Library, BuildFault>, Fail> {
     let mut symbols = symbols(alloc)?;
     assert!(rt; symbols.len() < 1000 && grammar.len() < 100_000);
     let grammar = read_grammar(alloc, &mut symbols, grammar)?;
@@ -63,7 +66,8 @@ fn library<A: Abort>(rt: &A, alloc: Global, grammar: &[u8], lexicon: &[u8]) -> R
 const GRAMMAR: &[u8] = b"Rule S -> NP VP: <S head> = <VP head>. Rule NP -> VP: <NP head> = <NP>.";
 
 /// The second entry of `runs` has no solution.
-const LEXICON: &[u8] = b"\\w dog\n\\c NP\n\\g hound\n\\w runs\n\\c VP\n\\f <cat> = NP\n\\w runs\n\\c VP\n";
+const LEXICON: &[u8] =
+    b"\\w dog\n\\c NP\n\\g hound\n\\w runs\n\\c VP\n\\f <cat> = NP\n\\w runs\n\\c VP\n";
 
 const fn arc(attribute: Id, to: Ref) -> Feature {
     Feature { attribute, to }
@@ -90,7 +94,11 @@ fn wanted_entry(alloc: Global) -> Result<Least, Memory>
     ensures { IfOk result (λ made. IsRooted made.block (ref.New made.root)) }
 {
     let mut block = Block::new(alloc);
-    let arcs = [arc(CAT, Ref::Atom(NP)), arc(LEX, Ref::Atom(DOG)), arc(GLOSS, Ref::Atom(HOUND))];
+    let arcs = [
+        arc(CAT, Ref::Atom(NP)),
+        arc(LEX, Ref::Atom(DOG)),
+        arc(GLOSS, Ref::Atom(HOUND)),
+    ];
     let root = top(&mut block, &arcs)?;
     Ok(Least { block, root })
 }

@@ -1,4 +1,4 @@
-//! The analyses of a sentence, from its closed chart.
+//! The analyses of a sentence: the whole edges of its closed chart with the start symbol, sorted by their keys.
 ghost use Rattle.std.specs.Prelude.{◌≡◌, ◌∷◌, [], ◌≤◌, length, map, IfOk};
 ghost use Rattle.std.specs.List.{AllByRecursion};
 ghost use Rattle.patr_arena.specs.Paths.{ids};

@@ -1,4 +1,4 @@
-//! The edge that two edges make: by unification.
+//! An active and a passive edge: decided, tested for size, and copied where there is a unifier.
 ghost use Rattle.std.specs.Prelude.{◌≡◌, ◌≢◌, ◌+◌, ◌≤◌, ◌∷◌, [], true, false, None, Some, length, IfOk};
 ghost use Rattle.patr_model.specs.Structure.{Node, Structure, arc, at};
 ghost use Rattle.patr_model.specs.Subsumption.{TakesBoth};

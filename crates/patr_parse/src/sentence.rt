@@ -1,4 +1,4 @@
-//! The words of a sentence, and their numbers.
+//! The words of a sentence and their numbers, or the first cause for which it is refused.
 ghost use Rattle.std.specs.Prelude.{◌≡◌, ℕ, ◌<◌, ◌≤◌, ◌++◌, length, map, IfOk, IfErr, MatchOption};
 ghost use Rattle.patr_arena.specs.Paths.{ids};
 ghost use Rattle.patr_model.specs.Session.{words_of};

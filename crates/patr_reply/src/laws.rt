@@ -1,4 +1,4 @@
-//! Laws about what is printed.
+//! The law that a least value has no other symbols than those that equations name.
 ghost use Rattle.patr_reply.specs.Held.{LibrariesAreHeld};
 ghost use Rattle.patr_reply.specs.Naming.{LeastValuesNameSymbols};
 

@@ -1,4 +1,4 @@
-//! The reply to a sentence.
+//! The reply to a sentence: a line for each analysis, one for its features, one for the number of edges.
 ghost use Rattle.std.specs.Prelude.{◌≡◌, ℕ, ◌<◌, ◌++◌, [], List, length, map, codes, decimal, IfOk};
 ghost use Rattle.std.specs.List.{AllByRecursion};
 ghost use Rattle.std.specs.String.{string_bytes};

@@ -1,3 +1,4 @@
+//! Tests of the public calls, and worked examples in tables.
 ghost use Rattle.std.specs.Prelude.{ℕ, List, length};
 ghost use Rattle.patr_text.specs.Texts.{first_texts, Extends};
 ghost use Rattle.patr_library.specs.Stored.{keys, rules_of};

@@ -1,4 +1,4 @@
-//! The text of a tree.
+//! The text of a tree, by a stack of parts that are still to be written.
 ghost use Rattle.std.specs.Prelude.{◌≡◌, ◌<◌, ◌++◌, ◌∷◌, [], length, slice_get, Some, IfOk};
 ghost use Rattle.std.specs.String.{string_bytes};
 ghost use Rattle.patr_model.specs.Text.{printed, tree_text};

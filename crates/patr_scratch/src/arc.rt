@@ -1,4 +1,4 @@
-//! The cells of added arcs.
+//! The cells of added arcs: an attribute, a target, and the next cell of the place's list.
 
 use crate::{Added, Target};
 use std::mem::size_of;

@@ -1,4 +1,4 @@
-//! The marks of a unification.
+//! The marks of a unification: a table, and stacks of arc cells, pairs and visits.
 ghost use Rattle.std.specs.Prelude.{◌≡◌, ◌≢◌, ◌<◌, ◌≤◌, ◌∷◌, ◌++◌, ℕ, [], IfOk, MatchOption, Some, None, length};
 ghost use Rattle.patr_scratch.specs.Linked.{first_of, last_or};
 ghost use Rattle.patr_scratch.specs.Contents.{HasPlace, HasCell, HasRoom, IsArcOf, IsBlank, IsCell, KeepsRoom, no_room, begun, first_cell, marks, put, with_arc, with_moved};

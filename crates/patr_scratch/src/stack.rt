@@ -1,4 +1,4 @@
-//! A stack in room that was taken before.
+//! A stack in a vector of full length with a count of its items, so that a push takes no memory.
 ghost use Rattle.std.specs.Prelude.{◌≡◌, ◌<◌, ◌≤◌, ◌∷◌, ◌++◌, [], IfOk, MatchOption, get_or, length, set};
 ghost use Rattle.patr_scratch.specs.WithRoom.{WithRoom};
 

@@ -1,4 +1,4 @@
-//! Stamped marks: a mark stands only in the generation that set it.
+//! A cell of marks for each place, the two sides' places taking turns; a mark stands only in the generation that set it.
 ghost use Rattle.std.specs.Prelude.{◌≡◌, ◌<◌, ◌≤◌, ◌-◌, ◌++◌, [], All, IfOk, length, set};
 ghost use Rattle.patr_scratch.specs.Marks.{mark_at, no_marks, blank};
 ghost use Rattle.patr_scratch.specs.Contents.{slot};

@@ -1,3 +1,4 @@
+//! Tests of the public calls, and worked examples in tables.
 ghost use Rattle.std.specs.Prelude.{◌≤◌, IfOk};
 ghost use Rattle.patr_scratch.specs.Contents.{HasPlace, HasRoom, IsBlank};
 

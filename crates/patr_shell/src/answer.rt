@@ -1,4 +1,4 @@
-//! The reply to a line.
+//! What a line comes to: a reply and the state behind it, or the end of the session.
 ghost use Rattle.std.specs.Prelude.{◌≡◌, ℕ, ◌<◌, List, length, map, IfOk, IfSome, string_bytes};
 ghost use Rattle.patr_model.specs.Solved.{solved};
 ghost use Rattle.patr_model.specs.Notations.{lines_with_commands};

@@ -1,3 +1,4 @@
+//! Tests of the public calls, and worked examples in tables.
 use super::*;
 use std::alloc::Global;
 use std::process::Abort;

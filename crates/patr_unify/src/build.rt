@@ -1,4 +1,4 @@
-//! The copy of a unifier.
+//! The copy of a unifier: ends are walked over once more, each copied behind those that its arcs lead to.
 ghost use Rattle.std.specs.Prelude.{◌≡◌, ◌<◌, ◌∷◌, ◌++◌, [], ℕ, List, IfOk, length};
 ghost use Rattle.patr_model.specs.Structure.{Node};
 ghost use Rattle.patr_arena.specs.Shown.{IsHeld, number_of};

@@ -1,4 +1,4 @@
-//! Pairs are worked off.
+//! Pairs are worked off: two atoms, an atom and a place without arcs, or two places.
 ghost use Rattle.std.specs.Prelude.{◌≡◌, ◌<◌, ◌≤◌, ℕ, [], List, Some, length, true, false};
 ghost use Rattle.patr_model.specs.Structure.{Node, Structure, Value, IsValue, at};
 ghost use Rattle.patr_model.specs.Subsumption.{TakesBoth};

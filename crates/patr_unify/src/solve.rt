@@ -1,4 +1,4 @@
-//! Whether two structures have a unifier.
+//! Whether two structures have a unifier: all pairs are worked off, then a walk looks for a circle.
 ghost use Rattle.std.specs.Prelude.{◌≡◌, ◌≢◌, ◌+◌, None};
 ghost use Rattle.patr_model.specs.Structure.{Node, Structure, at};
 ghost use Rattle.patr_model.specs.Subsumption.{TakesBoth};

@@ -1,3 +1,4 @@
+//! Tests of the public calls, and worked examples in tables.
 ghost use Rattle.std.specs.Prelude.{◌≡◌, ◌+◌, ◌<◌, ◌≤◌, ◌∷◌, [], length, true, IfOk, IfSome};
 ghost use Rattle.std.specs.List.Sorted.{IsStrictlyIncreasing};
 ghost use Rattle.patr_arena.specs.Arenas.{shown_of};
