@@ -29,7 +29,7 @@ use Rattle.patr_shell.specs.declared.status.Status.TheVariants.{Done, BadWords, 
 use Rattle.patr_shell.specs.declared.refusal.Refusal.{Refusal}
 use Rattle.patr_shell.specs.declared.refusal.Refusal.TheVariants as refusal
 use Rattle.patr_shell.specs.Answering.{HasQuit}
-use Rattle.patr_shell.specs.Outcome.{is_definite, Names, Builds, HasBadGrammar, HasBadLexicon, HaveSession, LooksAt, grammar, lexicon, CannotLoad, IsStatusOf, IsSessionStatus, IsEndOf, status_of, HasWritten, IsWithin, MayBeDone}
+use Rattle.patr_shell.specs.Outcome.{Names, Builds, HasBadGrammar, HasBadLexicon, HaveSession, LooksAt, grammar, lexicon, CannotLoad, IsStatusOf, IsSessionStatus, IsEndOf, status_of, HasWritten, Writes, IsWithin, MayBeDone}
 use Rattle.patr_shell.proofs.RunLaws.{one_opening, numbered_tables}
 
 -- a file is no longer than it may be
@@ -125,13 +125,13 @@ module _ (words : List (List ℕ)) (files : Option Files) (left : Option (List �
       let c : IsStatusOf words (Some may.told.0) (BadLexicon trouble) = subst (λ o. IsStatusOf words o (BadLexicon trouble)) may.told.1 cause in
       no_bad_lexicon words may.told.0 told_session trouble (subst (λ (z : Setup). HasBadLexicon (Some may.told.0) z trouble) (one_setup words may.told.0 told_session c.0 c.1) c.3)
 
-  pub refused_not : (r : Refusal) (status : Status) → IsStatusOf words files (status_of r) → IsEndOf r status → (status ≡ WriteFault → ⊥) → (status ≡ Done) ⊎ (status ≡ Memory)
-  refused_not r status cause (inl is) write = absurd (no_refusal r cause)
-  refused_not r status cause (inr (inl is)) write = absurd (write is)
-  refused_not r status cause (inr (inr is)) write = inr is
+  pub refused_not : (r : Refusal) (status : Status) (a b : Option (List ℕ)) → IsStatusOf words files (status_of r) → IsEndOf r status a b → (status ≡ WriteFault → ⊥) → (status ≡ Done) ⊎ (status ≡ Memory)
+  refused_not r status a b cause (inl is) write = absurd (no_refusal r cause)
+  refused_not r status a b cause (inr (inl is)) write = absurd (write is)
+  refused_not r status a b cause (inr (inr is)) write = inr is.0
 
   pub done_or_memory : (a b : Option (List ℕ)) (status : Status) → IsSessionStatus status → (status ≡ ReadFault → ⊥) → (status ≡ WriteFault → ⊥)
-      → OnTrue (is_definite status) (IfSome files (λ f. IfSome left (λ input. HasWritten words f input status a b))) → (status ≡ Done) ⊎ (status ≡ Memory)
+      → IfSome files (λ f. IfSome left (λ input. Writes words f input status a b)) → (status ≡ Done) ⊎ (status ≡ Memory)
   done_or_memory a b Done is read write whole = inl refl
   done_or_memory a b Memory is read write whole = inr refl
   done_or_memory a b BadWords is read write whole = cc
@@ -140,9 +140,9 @@ module _ (words : List (List ℕ)) (files : Option Files) (left : Option (List �
   done_or_memory a b ReadFault is read write whole = absurd (read refl)
   done_or_memory a b WriteFault is read write whole = absurd (write refl)
   done_or_memory a b InputTooLong is read write whole =
-      let w = subst (λ o. IfSome o (λ f. IfSome left (λ input. HasWritten words f input InputTooLong a b))) may.told.1 whole in
-      let v = subst (λ o. IfSome o (λ input. HasWritten words may.told.0 input InputTooLong a b)) may.input.1 w in
-      absurd (not_too_long words may.told.0 told_session may.input.0 may.input.2 a b v)
+      let w = subst (λ o. IfSome o (λ f. IfSome left (λ input. Writes words f input InputTooLong a b))) may.told.1 whole in
+      let v = subst (λ o. IfSome o (λ input. Writes words may.told.0 input InputTooLong a b)) may.input.1 w in
+      absurd (not_too_long words may.told.0 told_session may.input.0 may.input.2 a b v.whole)
 
   -- no read failed where no count rose, since each file that is looked at is there
   pub no_read : (before now : ℕ) (failed : Option (List ℕ)) → (Rose before now → ⊥) → (name : List ℕ) → LooksAt words files name → CannotLoad files before now failed name → ⊥

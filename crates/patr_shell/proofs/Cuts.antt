@@ -1,7 +1,7 @@
 -- How lines are cut where the bytes come in pieces.
-use Rattle.std.proofs.Common.{◌≡◌, ◌≤◌, length, arith, ℕ, zero, suc, take, nat_eq, List, [], ◌∷◌, ◌++◌, true, false, cond, refl, sym, ◌∙◌, ap, append-nil}
+use Rattle.std.proofs.Common.{◌≡◌, ℕ, zero, suc, take, nat_eq, eqb-true, List, [], ◌∷◌, ◌++◌, true, false, cond, refl, sym, ◌∙◌, ap, subst, append-nil, append_assoc}
 use Rattle.patr_model.specs.Session.{Cut, cut_at, without_cr, whole_lines_from, whole_lines_of, lines_by, lines_of}
-use Rattle.patr_shell.specs.Answering.{last_of, last_piece, last_line, HasNoFeed, joined_by_feeds, ended_part}
+use Rattle.patr_shell.specs.Answering.{last_of, last_piece, last_line, HasNoFeed}
 
 abbrev pub cut : List ℕ → Cut
 cut bytes = cut_at (nat_eq 10) bytes
@@ -131,31 +131,70 @@ take_is_free zero xs none = refl
 take_is_free (suc n) [] none = refl
 take_is_free (suc n) (b ∷ bs) none = front_free n b bs (take_is_free n bs) none
 
--- the bytes up to the last LF have the lines that end
-ended_lines : (first : List ℕ) (rest : List (List ℕ)) → AreFree first rest
-    → (whole_lines_of (joined_by_feeds first rest) ≡ whole_lines_from first rest) × (last_piece (joined_by_feeds first rest) ≡ [])
-ended_lines first [] free = (refl, refl)
-ended_lines first (next ∷ rest) free =
-    let more = ended_lines next rest free.1 in (
-      line_ended first free.0 (joined_by_feeds next rest) ∙ ap (λ (l : List (List ℕ)). without_cr first ∷ l) more.0,
-      piece_ended first free.0 (joined_by_feeds next rest) ∙ more.1,
-    )
+-- ---- the first lines, with their bytes
 
-pub lines_of_ended : (xs : List ℕ) → lines_of (ended_part xs) ≡ whole_lines_of xs
-lines_of_ended xs =
-    let at = ended_lines (cut xs).first (cut xs).rest (pieces_are_free xs) in
-    lines_are (ended_part xs) ∙ ap (λ (p : List ℕ). whole_lines_of (ended_part xs) ++ last_line p) at.1 ∙ append-nil (whole_lines_of (ended_part xs)) ∙ at.0
+-- the bytes up to the last LF, by the pieces between them
+abbrev joined_by_feeds : List ℕ → List (List ℕ) → List ℕ
+joined_by_feeds first [] = []
+joined_by_feeds first (next ∷ rest) = first ++ 10 ∷ joined_by_feeds next rest
 
-shorter : (first : List ℕ) (rest : List (List ℕ)) (b : ℕ) → length (joined_by_feeds (b ∷ first) rest) ≤ suc (length (joined_by_feeds first rest))
-shorter first [] b = omega arith
-shorter first (next ∷ rest) b = omega arith
+-- these lines, and behind them the others, end in bytes: so the bytes begin with those of these lines
+pub record FirstLines (bytes : List ℕ) (some others : List (List ℕ)) : Type 0 where
+  pub lines : List ℕ
+  pub rest : List ℕ
+  pub split : bytes ≡ lines ++ rest
+  pub whole : last_piece lines ≡ []
+  pub are : whole_lines_of lines ≡ some
+  pub all : others ≡ [] → HasNoFeed rest
 
-pub ended_is_short : (xs : List ℕ) → length (ended_part xs) ≤ length xs
-ended_is_short [] = omega arith
-ended_is_short (b ∷ bs) =
-    let k = ended_is_short bs in
-    let P : Cut → Type 0 = λ c. length (joined_by_feeds c.first c.rest) ≤ suc (length bs) in
-    elim (nat_eq 10 b) as (λ t. P (cond t (behind (cut bs)) (onto b (cut bs)))) [
-      | true ↦ omega (arith, k)
-      | false ↦ omega (arith, k, shorter (cut bs).first (cut bs).rest b)
-    ]
+behind_feed : (first j l lines rest : List ℕ) → j ++ l ≡ lines ++ rest → (first ++ 10 ∷ j) ++ l ≡ (first ++ 10 ∷ lines) ++ rest
+behind_feed first j l lines rest is = append_assoc first (10 ∷ j) l ∙ ap (λ (k : List ℕ). first ++ 10 ∷ k) is ∙ sym (append_assoc first (10 ∷ lines) rest)
+
+first_pieces : (first : List ℕ) (rest : List (List ℕ)) → AreFree first rest → (some others : List (List ℕ)) → whole_lines_from first rest ≡ some ++ others
+    → FirstLines (joined_by_feeds first rest ++ last_of first rest) some others
+first_pieces first [] free [] others is = record { lines = []; rest = first; split = refl; whole = refl; are = refl; all = λ none. free }
+first_pieces first [] free (l ∷ some) others is = cc
+first_pieces first (next ∷ rest) free [] others is = record {
+  lines = [];
+  rest = joined_by_feeds first (next ∷ rest) ++ last_of next rest;
+  split = refl;
+  whole = refl;
+  are = refl;
+  all = λ none. cc;
+}
+first_pieces first (next ∷ rest) free (l ∷ some) others is =
+    let this : without_cr first ≡ l = cc in
+    let those : whole_lines_from next rest ≡ some ++ others = cc in
+    let more = first_pieces next rest free.1 some others those in
+    record {
+      lines = first ++ 10 ∷ more.lines;
+      rest = more.rest;
+      split = behind_feed first (joined_by_feeds next rest) (last_of next rest) more.lines more.rest more.split;
+      whole = piece_ended first free.0 more.lines ∙ more.whole;
+      are =
+          line_ended first free.0 more.lines
+          ∙ ap (λ (k : List (List ℕ)). without_cr first ∷ k) more.are
+          ∙ ap (λ (k : List ℕ). k ∷ some) this;
+      all = more.all;
+    }
+
+-- pieces and the LFs between them are the bytes that were cut
+pieces_onto : (b : ℕ) (first : List ℕ) (rest : List (List ℕ)) → joined_by_feeds (b ∷ first) rest ++ last_of (b ∷ first) rest ≡ b ∷ (joined_by_feeds first rest ++ last_of first rest)
+pieces_onto b first [] = refl
+pieces_onto b first (next ∷ rest) = refl
+
+pieces_join : (xs : List ℕ) → joined_by_feeds (cut xs).first (cut xs).rest ++ last_of (cut xs).first (cut xs).rest ≡ xs
+pieces_join [] = refl
+pieces_join (b ∷ bs) =
+    elim (nat_eq 10 b) as (λ t. nat_eq 10 b ≡ t → joined_by_feeds (cond t (behind (cut bs)) (onto b (cut bs))).first (cond t (behind (cut bs)) (onto b (cut bs))).rest
+    ++ last_of (cond t (behind (cut bs)) (onto b (cut bs))).first (cond t (behind (cut bs)) (onto b (cut bs))).rest ≡ b ∷ bs) [
+      | true ↦ λ feed. ap (λ (l : List ℕ). 10 ∷ l) (pieces_join bs) ∙ ap (λ (c : ℕ). c ∷ bs) (eqb-true 10 b feed)
+      | false ↦ λ other. pieces_onto b (cut bs).first (cut bs).rest ∙ ap (λ (l : List ℕ). b ∷ l) (pieces_join bs)
+    ] refl
+
+pub first_lines : (xs : List ℕ) (some others : List (List ℕ)) → whole_lines_of xs ≡ some ++ others → FirstLines xs some others
+first_lines xs some others is =
+    subst (λ b. FirstLines b some others) (pieces_join xs) (first_pieces (cut xs).first (cut xs).rest (pieces_are_free xs) some others is)
+
+pub lines_of_whole : (xs : List ℕ) → last_piece xs ≡ [] → lines_of xs ≡ whole_lines_of xs
+lines_of_whole xs whole = lines_are xs ∙ ap (λ (p : List ℕ). whole_lines_of xs ++ last_line p) whole ∙ append-nil (whole_lines_of xs)

@@ -1,9 +1,12 @@
 -- A text is sent piece by piece.
-use Rattle.std.specs.Result.{OnErr}
+use Rattle.std.specs.Result.{OnErr, IfErr}
 use Rattle.std.proofs.Common.{◌≡◌, ℕ, List, [], ◌++◌, Result, Ok, Err, Option, take, drop, refl, sym, ◌∙◌, ap, append_assoc, append-nil, take-append-drop}
 use Rattle.std.specs.Io.KnownBytes.{Appends, Keeps}
 use Rattle.std.proofs.KnownBytes.{Appends-nil, Appends-trans, Appends-kept}
 use Rattle.patr_shell.specs.Sent.{IsSent, AppendsFront}
+use Rattle.patr_shell.specs.Answering.{HasReached}
+use Rattle.patr_shell.specs.declared.session.AnswerFault.{AnswerFault}
+use Rattle.patr_shell.specs.declared.session.AnswerFault.TheVariants.{Write, Memory}
 
 pub sent_none : (a : Option (List ℕ)) (text : List ℕ) → IsSent a a text text
 sent_none a text = record { front = []; split = refl; appended = Appends-nil a }
@@ -34,6 +37,10 @@ pub OnErr-always : {T E P : Type 0} (r : Result T E) → P → OnErr r P
 OnErr-always (Ok x) p = tt
 OnErr-always (Err e) p = p
 
+pub IfErr-always : {T E : Type 0} (r : Result T E) (P : E → Type 0) → ((e : E) → P e) → IfErr r P
+IfErr-always (Ok x) P p = tt
+IfErr-always (Err e) P p = p e
+
 -- a front that follows what was sent whole
 pub front_behind : (a b c : Option (List ℕ)) (text more : List ℕ) → Appends a b text → AppendsFront b c more → AppendsFront a c (text ++ more)
 front_behind a b c text more sent front = (
@@ -60,3 +67,21 @@ whole_front a b text sent = ([], sent_whole a b text sent)
 
 pub no_front : (a : Option (List ℕ)) (text : List ℕ) → AppendsFront a a text
 no_front a text = (text, sent_none a text)
+
+-- ---- what reached the sink before a fault
+
+pub reached_none : (fault : AnswerFault) (a : Option (List ℕ)) → HasReached fault a a []
+reached_none Write a = ([], sent_none a [])
+reached_none Memory a = Appends-nil a
+
+pub reached_whole : (fault : AnswerFault) (a b : Option (List ℕ)) (text : List ℕ) → Appends a b text → HasReached fault a b text
+reached_whole Write a b text sent = whole_front a b text sent
+reached_whole Memory a b text sent = sent
+
+pub reached_behind : (fault : AnswerFault) (a b c : Option (List ℕ)) (text more : List ℕ) → Appends a b text → HasReached fault b c more → HasReached fault a c (text ++ more)
+reached_behind Write a b c text more sent reached = front_behind a b c text more sent reached
+reached_behind Memory a b c text more sent reached = Appends-trans a b c text more sent reached
+
+pub reached_front : (fault : AnswerFault) (a b : Option (List ℕ)) (text : List ℕ) → HasReached fault a b text → AppendsFront a b text
+reached_front Write a b text reached = reached
+reached_front Memory a b text reached = whole_front a b text reached

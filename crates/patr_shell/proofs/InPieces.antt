@@ -4,6 +4,7 @@ use Rattle.patr_model.specs.Session.{without_cr, whole_lines_of}
 use Rattle.patr_shell.specs.Spoken.{Spoken}
 use Rattle.patr_shell.specs.Answering.{HasNoFeed, last_piece, HasAnswered, HasEnded, HasBegun}
 use Rattle.patr_shell.specs.declared.state.State.{State}
+use Rattle.patr_shell.specs.declared.session.AnswerFault.{AnswerFault}
 use Rattle.patr_shell.proofs.Cuts.{line_ended, piece_ended, free_two, lines_of_free, piece_of_free}
 use Rattle.patr_shell.proofs.Ends.{take_once}
 use Rattle.patr_shell.proofs.Replying.{answered_none, answered_behind, answered_same, ended_behind, ended_longer, ended_same, begun_same, begun_behind, begun_longer, begun_of_answered}
@@ -23,9 +24,9 @@ module _ (spoken : Spoken) (st : State) where
 
   module _ (mid : State) (bytes held rest : List ℕ) (a b : Option (List ℕ)) (stands : InPiece spoken st mid bytes held rest a b) where
     -- nothing more was answered
-    pub in_piece_stop : HasBegun spoken st (whole_lines_of bytes) a b
-    in_piece_stop = subst (λ l. HasBegun spoken st l a b) (sym stands.lines)
-        (begun_longer spoken st stands.done (whole_lines_of (held ++ rest)) a b (begun_of_answered spoken st mid stands.done a b stands.answered))
+    pub in_piece_stop : (fault : AnswerFault) → HasBegun spoken st (whole_lines_of bytes) fault a b
+    in_piece_stop fault = subst (λ l. HasBegun spoken st l fault a b) (sym stands.lines)
+        (begun_longer spoken st stands.done (whole_lines_of (held ++ rest)) fault a b (begun_of_answered spoken st mid stands.done fault a b stands.answered))
 
     -- a line ends in the rest
     module _ (front behind kept : List ℕ) (cut : rest ≡ front ++ 10 ∷ behind) (free : HasNoFeed front) (is : kept ≡ take 4098 (held ++ front)) (c : Option (List ℕ)) where
@@ -66,10 +67,10 @@ module _ (spoken : Spoken) (st : State) where
           (ended_longer spoken st (stands.done ++ without_cr (held ++ front) ∷ []) (whole_lines_of behind) a c
           (ended_behind spoken st mid stands.done (without_cr (held ++ front) ∷ []) a b c stands.answered (ended_same spoken kept (held ++ front) same [] mid b c ended)))
 
-      pub in_piece_fault : HasBegun spoken mid (without_cr kept ∷ []) b c → HasBegun spoken st (whole_lines_of bytes) a c
-      in_piece_fault begun = subst (λ l. HasBegun spoken st l a c) (sym all_lines)
-          (begun_longer spoken st (stands.done ++ without_cr (held ++ front) ∷ []) (whole_lines_of behind) a c
-          (begun_behind spoken st mid stands.done (without_cr (held ++ front) ∷ []) a b c stands.answered (begun_same spoken kept (held ++ front) same [] mid b c begun)))
+      pub in_piece_fault : (fault : AnswerFault) → HasBegun spoken mid (without_cr kept ∷ []) fault b c → HasBegun spoken st (whole_lines_of bytes) fault a c
+      in_piece_fault fault begun = subst (λ l. HasBegun spoken st l fault a c) (sym all_lines)
+          (begun_longer spoken st (stands.done ++ without_cr (held ++ front) ∷ []) (whole_lines_of behind) fault a c
+          (begun_behind spoken st mid stands.done (without_cr (held ++ front) ∷ []) a b c stands.answered fault (begun_same spoken kept (held ++ front) same [] mid b c fault begun)))
 
     -- no line ends in the rest
     module _ (none : HasNoFeed rest) where

@@ -1,5 +1,6 @@
 -- What a run writes, by its opening and its session.
-use Rattle.std.proofs.Common.{◌≡◌, ◌<◌, ◌≤◌, arith, ℕ, List, [], ◌∷◌, Option, Some, None, IfSome, Bool, true, false, length, refl, sym, ◌∙◌, ap, subst, inl, inr}
+use Rattle.std.proofs.Common.{◌≡◌, ◌<◌, ◌≤◌, arith, ℕ, List, [], ◌∷◌, ◌++◌, Option, Some, None, IfSome, Bool, true, false, length, take, drop, refl, sym, ◌∙◌, ap, subst, inl, inr, append_assoc, append-nil, length-append, take-append-drop}
+use Rattle.std.proofs.lemmas.List.{length-take}
 use Rattle.std.specs.Bool.{OnTrue}
 use Rattle.std.specs.Option.{IsSomeAnd}
 use Rattle.std.specs.FinMap.{get}
@@ -7,7 +8,7 @@ use Rattle.std.specs.Io.KnownBytes.{Appends, Consumes}
 use Rattle.patr_io.specs.Files.{Files}
 use Rattle.patr_model.specs.Solved.{solved}
 use Rattle.patr_model.specs.Session as model
-use Rattle.patr_model.specs.Session.{Numbering, Grounds, Replied, whole_lines_of, lines_of}
+use Rattle.patr_model.specs.Session.{Numbering, AgreesWith, Grounds, Replied, whole_lines_of, lines_of}
 use Rattle.patr_model.specs.Table.{IsTable}
 use Rattle.patr_model.specs.Run as run
 use Rattle.patr_model.specs.Run.{Opening, Session, Refusal as Refuses, AfterWords, AfterGrammar, IsOpening, IsOut, Follows}
@@ -29,9 +30,9 @@ use Rattle.patr_shell.specs.declared.refusal.Refusal.{Refusal}
 use Rattle.patr_shell.specs.declared.refusal.Refusal.TheVariants.{Words, Grammar, Lexicon}
 use Rattle.patr_shell.specs.Spoken.{Spoken, grounds, state_seen}
 use Rattle.patr_shell.specs.Sent.{AppendsFront}
-use Rattle.patr_shell.specs.Answering.{ended_part, HasAnswered, HasWrittenSession, HasBegunSession}
-use Rattle.patr_shell.specs.Outcome.{is_definite, ending_of, HaveSession, IsSessionStatus, IsStatusOf, status_of, refusal_line, IsOpened, IsEndOf, Builds, HasWritten, HasBegunRun, HasAnsweredTaken}
-use Rattle.patr_shell.proofs.Cuts.{lines_of_ended, ended_is_short}
+use Rattle.patr_shell.specs.Answering.{HasNoFeed, HasWrittenSession, HasBegunSession}
+use Rattle.patr_shell.specs.Outcome.{is_definite, ending_of, HaveSession, IsSessionStatus, IsStatusOf, status_of, refusal_line, IsOpened, IsEndOf, Builds, HasWritten, HasBegunRun, Writes, HasAnsweredFirst, HasAnsweredTaken, HasRunSession, HasRun}
+use Rattle.patr_shell.proofs.Cuts.{FirstLines, first_lines, lines_of_whole}
 use Rattle.patr_shell.proofs.Fronts.{no_front}
 use Rattle.patr_shell.proofs.RunLaws.{one_opening, numbered_tables, any_numbering}
 
@@ -113,9 +114,9 @@ module _ (words : List (List ℕ)) (f : Files) where
 
 -- ---- where the files and the input are told
 
-on_true : (b : Bool) (P : Type 0) → b ≡ true → OnTrue b P → P
-on_true true P is p = p
-on_true false P is p = cc
+on_true : (b : Bool) (P Q : Type 0) → (P → Q) → OnTrue b P → OnTrue b Q
+on_true true P Q f p = f p
+on_true false P Q f p = tt
 
 of_true : (b : Bool) (P : Type 0) → P → OnTrue b P
 of_true true P p = p
@@ -125,72 +126,44 @@ of_false : (b : Bool) (P : Type 0) → b ≡ false → OnTrue b P
 of_false true P is = cc
 of_false false P is = tt
 
-is_definite_refusal : (r : Refusal) → is_definite (status_of r) ≡ true
-is_definite_refusal Words = refl
-is_definite_refusal (Grammar trouble) = refl
-is_definite_refusal (Lexicon trouble) = refl
+abbrev Text : List (List ℕ) → Option Files → Option (List ℕ) → Option (List ℕ) → Option (List ℕ) → Status → Type 0
+Text words files left a b status = IfSome files (λ f. IfSome left (λ input. Writes words f input status a b))
 
-module _ (words : List (List ℕ)) (files : Option Files) (left : Option (List ℕ)) (a b : Option (List ℕ)) where
-  abbrev Whole : Status → Type 0
-  Whole status = IfSome files (λ f. IfSome left (λ input. HasWritten words f input status a b))
+refused_at : (words : List (List ℕ)) (f : Files) (r : Refusal) → IsStatusOf words (Some f) (status_of r) → (input : List ℕ) (a b : Option (List ℕ)) (status : Status) → IsEndOf r status a b
+    → OnTrue (is_definite status) (HasWritten words f input status a b)
+refused_at words f r cause input a b status (inl is) =
+    of_true (is_definite status) (HasWritten words f input status a b) (subst (λ s. HasWritten words f input s a b) (sym is.0) (refused_whole words f r cause input a b is.1))
+refused_at words f r cause input a b status (inr (inl is)) = of_false (is_definite status) (HasWritten words f input status a b) (ap is_definite is)
+refused_at words f r cause input a b status (inr (inr is)) = of_false (is_definite status) (HasWritten words f input status a b) (ap is_definite is.0)
 
-  abbrev Front : Type 0
-  Front = IfSome files (λ f. IfSome left (λ input. HasBegunRun words f input a b))
+pub refused_text : (words : List (List ℕ)) (files : Option Files) (left a b : Option (List ℕ)) (r : Refusal) → IsStatusOf words files (status_of r) → (status : Status) → IsEndOf r status a b
+    → AppendsFront a b (refusal_line r) → Text words files left a b status
+refused_text words None left a b r cause status end front = tt
+refused_text words (Some f) None a b r cause status end front = tt
+refused_text words (Some f) (Some input) a b r cause status end front = record {
+  whole = refused_at words f r cause input a b status end;
+  front = refused_front words f r cause input a b front;
+}
 
-  -- what holds whatever the files and the input are
-  told : (P : Files → List ℕ → Type 0) → ((f : Files) → files ≡ Some f → (input : List ℕ) → P f input) → IfSome files (λ f. IfSome left (λ input. P f input))
-  told P each = elim files as (λ o. files ≡ o → IfSome o (λ f. IfSome left (λ input. P f input))) [
-    | None ↦ λ _. tt
-    | Some f ↦ λ is. elim left as (λ l. IfSome l (λ input. P f input)) [ None ↦ tt | Some input ↦ each f is input ]
-  ] refl
-
-  module _ (r : Refusal) (cause : IsStatusOf words files (status_of r)) where
-    refusal_whole : Appends a b (refusal_line r) → Whole (status_of r)
-    refusal_whole sent = told (λ f input. HasWritten words f input (status_of r) a b)
-        (λ f is input. refused_whole words f r (subst (λ o. IsStatusOf words o (status_of r)) is cause) input a b sent)
-
-    pub refused_told : (status : Status) → IsEndOf r status → OnTrue (is_definite status) (Appends a b (refusal_line r)) → OnTrue (is_definite status) (Whole status)
-    refused_told status (inl is) sent =
-        of_true (is_definite status) (Whole status)
-        (subst Whole (sym is) (refusal_whole (on_true (is_definite status) (Appends a b (refusal_line r)) (ap is_definite is ∙ is_definite_refusal r) sent)))
-    refused_told status (inr (inl is)) sent = of_false (is_definite status) (Whole status) (ap is_definite is)
-    refused_told status (inr (inr is)) sent = of_false (is_definite status) (Whole status) (ap is_definite is)
-
-    pub refused_begun : AppendsFront a b (refusal_line r) → Front
-    refused_begun front = told (λ f input. HasBegunRun words f input a b)
-        (λ f is input. refused_front words f r (subst (λ o. IsStatusOf words o (status_of r)) is cause) input a b front)
-
-  module _ (spoken : Spoken) (st : State) (opened : IfSome files (λ f. IsOpened words f spoken st)) (table : IsTable spoken.texts) where
-    opened_at : (f : Files) → files ≡ Some f → IsOpened words f spoken st
-    opened_at f is = subst (λ o. IfSome o (λ f. IsOpened words f spoken st)) is opened
-
-    session_written : (status : Status) → IfSome left (λ input. HasWrittenSession spoken st input (ending_of status) a b) → Whole status
-    session_written status written = elim left as (λ l. IfSome l (λ input. HasWrittenSession spoken st input (ending_of status) a b) → IfSome files (λ f. IfSome l (λ input. HasWritten words f input status a b))) [
-      | None ↦ λ _. elim files as (λ o. IfSome o (λ f. IfSome None (λ input. HasWritten words f input status a b))) [ None ↦ tt | Some f ↦ tt ]
-      | Some input ↦ λ w. elim files as (λ o. files ≡ o → IfSome o (λ f. HasWritten words f input status a b)) [
-        | None ↦ λ _. tt
-        | Some f ↦ λ is. session_whole words f spoken st (opened_at f is) table input a b status w
-      ] refl
-    ] written
-
-    pub session_told : (status : Status) → OnTrue (is_definite status) (IfSome left (λ input. HasWrittenSession spoken st input (ending_of status) a b)) → OnTrue (is_definite status) (Whole status)
-    session_told status written = elim (is_definite status) as (λ t. OnTrue t (IfSome left (λ input. HasWrittenSession spoken st input (ending_of status) a b)) → OnTrue t (Whole status)) [
-      | true ↦ λ w. session_written status w
-      | false ↦ λ _. tt
-    ] written
-
-    pub session_begun : IfSome left (λ input. HasBegunSession spoken st input a b) → Front
-    session_begun begun = elim left as (λ l. IfSome l (λ input. HasBegunSession spoken st input a b) → IfSome files (λ f. IfSome l (λ input. HasBegunRun words f input a b))) [
-      | None ↦ λ _. elim files as (λ o. IfSome o (λ f. IfSome None (λ input. HasBegunRun words f input a b))) [ None ↦ tt | Some f ↦ tt ]
-      | Some input ↦ λ w. elim files as (λ o. files ≡ o → IfSome o (λ f. HasBegunRun words f input a b)) [
-        | None ↦ λ _. tt
-        | Some f ↦ λ is. session_front words f spoken st (opened_at f is) table input a b w
-      ] refl
-    ] begun
+pub session_text : (words : List (List ℕ)) (files : Option Files) (left a b : Option (List ℕ)) (spoken : Spoken) (st : State) → IfSome files (λ f. IsOpened words f spoken st) → IsTable spoken.texts
+    → (status : Status) → OnTrue (is_definite status) (IfSome left (λ input. HasWrittenSession spoken st input (ending_of status) a b)) → IfSome left (λ input. HasBegunSession spoken st input a b)
+    → Text words files left a b status
+session_text words None left a b spoken st opened table status written begun = tt
+session_text words (Some f) None a b spoken st opened table status written begun = tt
+session_text words (Some f) (Some input) a b spoken st opened table status written begun = record {
+  whole = on_true (is_definite status) (HasWrittenSession spoken st input (ending_of status) a b) (HasWritten words f input status a b)
+      (session_whole words f spoken st opened table input a b status) written;
+  front = session_front words f spoken st opened table input a b begun;
+}
 
 -- nothing is written
-pub nothing_begun : (words : List (List ℕ)) (files : Option Files) (left : Option (List ℕ)) (a : Option (List ℕ)) → IfSome files (λ f. IfSome left (λ input. HasBegunRun words f input a a))
-nothing_begun words files left a = told words files left a a (λ f input. HasBegunRun words f input a a) (λ f is input N text ending out. no_front a text)
+pub nothing_text : (words : List (List ℕ)) (files : Option Files) (left a : Option (List ℕ)) (status : Status) → is_definite status ≡ false → Text words files left a a status
+nothing_text words None left a status is = tt
+nothing_text words (Some f) None a status is = tt
+nothing_text words (Some f) (Some input) a status is = record {
+  whole = of_false (is_definite status) (HasWritten words f input status a a) is;
+  front = λ N text ending out. no_front a text;
+}
 
 -- a session's status has its cause
 pub session_cause : (words : List (List ℕ)) (files : Option Files) (status : Status) → HaveSession words files → IsSessionStatus status → IsStatusOf words files status
@@ -208,17 +181,69 @@ replied : (s : Grounds) (st end : model.State) (ls : List (List ℕ)) (text : Li
 replied s st end [] text h = (h.0, refl)
 replied s st end (l ∷ ls) text h = inr (h.0, h.1, h.2, h.3, h.4, replied s h.2 end ls h.3 h.5, h.6)
 
-written_lines : (spoken : Spoken) (st end : State) (input : List ℕ) (a b : Option (List ℕ)) → length input ≤ 16777216 → HasAnswered spoken st (lines_of input) end a b → HasWrittenSession spoken st input run.Done a b
-written_lines spoken st end input a b short h = record {
-  text = h.text;
-  is_session = λ N agrees. run.ended short false (replied (grounds N spoken) (state_seen st) (state_seen end) (lines_of input) h.text (h.replies N agrees)) refl;
-  appended = h.sent;
-}
+module _ (words : List (List ℕ)) (f : Files) (spoken : Spoken) (st : State) (opened : IsOpened words f spoken st) (table : IsTable spoken.texts) (left now a b : Option (List ℕ)) where
+  -- the first lines of what was taken are answered
+  first_answered : (bytes beyond : List ℕ) → Consumes left now (bytes ++ beyond) → length bytes ≤ 16777216 → (some others : List (List ℕ)) → FirstLines bytes some others → (end : State) (text : List ℕ)
+      → ((N : Numbering) → AgreesWith N spoken.texts → Answered solved lines_with_commands (grounds N spoken) (state_seen st) some text (state_seen end)) → Appends a b text → HasAnsweredFirst words f left now a b
+  first_answered bytes beyond read short some others first end text replies sent =
+      let within : length first.lines ≤ 16777216 = omega (arith, short, ap length first.split, length-append first.lines first.rest) in
+      let are : some ≡ lines_of first.lines = sym (lines_of_whole first.lines first.whole ∙ first.are) in
+      record {
+        lines = first.lines;
+        rest = first.rest ++ beyond;
+        taken = subst (Consumes left now) (ap (λ (l : List ℕ). l ++ beyond) first.split ∙ append_assoc first.lines first.rest beyond) read;
+        whole = first.whole;
+        written = session_whole words f spoken st opened table first.lines a b Done (record {
+          text = text;
+          is_session = λ N agrees. run.ended within false (replied (grounds N spoken) (state_seen st) (state_seen end) (lines_of first.lines) text
+              (subst (λ l. Answered solved lines_with_commands (grounds N spoken) (state_seen st) l text (state_seen end)) are (replies N agrees))) refl;
+          appended = sent;
+        });
+      }
 
--- a read of the input failed
-pub taken_told : (words : List (List ℕ)) (files : Option Files) (spoken : Spoken) (st : State) → IfSome files (λ f. IsOpened words f spoken st) → IsTable spoken.texts → (left now a b : Option (List ℕ))
-    → (taken : List ℕ) × Consumes left now taken × (length taken ≤ 16777216) × (end : State) × HasAnswered spoken st (whole_lines_of taken) end a b → IfSome files (λ f. HasAnsweredTaken words f left now a b)
-taken_told words None spoken st opened table left now a b (taken, read, short, end, answered) = tt
-taken_told words (Some f) spoken st opened table left now a b (taken, read, short, end, answered) =
-    let lines = subst (λ l. HasAnswered spoken st l end a b) (sym (lines_of_ended taken)) answered in
-    (taken, read, session_whole words f spoken st opened table (ended_part taken) a b Done (written_lines spoken st end (ended_part taken) a b (omega (arith, short, ended_is_short taken)) lines))
+  -- all of them, where a read failed
+  all_answered : HasRunSession spoken st ReadFault left now a b → HasAnsweredTaken words f left now a b
+  unfolding first_answered
+  all_answered (taken, read, short, end, answered) =
+      let first = first_lines taken (whole_lines_of taken) [] (sym (append-nil (whole_lines_of taken))) in
+      record {
+        answered = first_answered taken [] (subst (Consumes left now) (sym (append-nil taken)) read) short (whole_lines_of taken) [] first end answered.text answered.replies answered.sent;
+        all = subst HasNoFeed (sym (append-nil first.rest)) (first.all refl);
+      }
+
+  -- some of them, where memory was short
+  some_answered : HasRunSession spoken st Memory left now a b → HasAnsweredFirst words f left now a b
+  some_answered (taken, read, begun) =
+      let within = take 16777216 taken in
+      let beyond = drop 16777216 taken in
+      first_answered within beyond (subst (Consumes left now) (sym (take-append-drop 16777216 taken)) read) (omega (arith, length-take 16777216 taken))
+      begun.some begun.others (first_lines within begun.some begun.others begun.split) begun.end begun.text begun.replies begun.front
+
+if_opened : (files : Option Files) (P Q : Files → Type 0) → ((f : Files) → P f → Q f) → IfSome files P → IfSome files Q
+if_opened None P Q each p = tt
+if_opened (Some f) P Q each p = each f p
+
+module _ (words : List (List ℕ)) (files : Option Files) (left now a b : Option (List ℕ)) where
+  -- a session
+  pub session_run : (spoken : Spoken) (st : State) → IfSome files (λ f. IsOpened words f spoken st) → IsTable spoken.texts
+      → (status : Status) → IsSessionStatus status → HasRunSession spoken st status left now a b → HasRun words files status left now a b
+  session_run spoken st opened table Done is h = h
+  session_run spoken st opened table BadWords is h = cc
+  session_run spoken st opened table (BadGrammar trouble) is h = cc
+  session_run spoken st opened table (BadLexicon trouble) is h = cc
+  session_run spoken st opened table ReadFault is h = inr (if_opened files (λ f. IsOpened words f spoken st) (λ f. HasAnsweredTaken words f left now a b) (λ f o. all_answered words f spoken st o table left now a b h) opened)
+  session_run spoken st opened table WriteFault is h = tt
+  session_run spoken st opened table Memory is h = inr (if_opened files (λ f. IsOpened words f spoken st) (λ f. HasAnsweredFirst words f left now a b) (λ f o. some_answered words f spoken st o table left now a b h) opened)
+  session_run spoken st opened table InputTooLong is h = h
+
+-- a refusal
+module _ (words : List (List ℕ)) (files : Option Files) (left a b : Option (List ℕ)) where
+  refused_run : (r : Refusal) → Appends a b (refusal_line r) → HasRun words files (status_of r) left left a b
+  refused_run Words sent = (refl, sent)
+  refused_run (Grammar trouble) sent = (refl, sent)
+  refused_run (Lexicon trouble) sent = (refl, sent)
+
+  pub refusal_run : (r : Refusal) (status : Status) → IsEndOf r status a b → HasRun words files status left left a b
+  refusal_run r status (inl is) = subst (λ s. HasRun words files s left left a b) (sym is.0) (refused_run r is.1)
+  refusal_run r status (inr (inl is)) = subst (λ s. HasRun words files s left left a b) (sym is) tt
+  refusal_run r status (inr (inr is)) = subst (λ s. HasRun words files s left left a b) (sym is.0) (inl (refl, is.1))

@@ -1,9 +1,10 @@
 -- Replies to lines, one list behind another, and how much of a line its reply depends on.
-use Rattle.std.proofs.Common.{◌≡◌, ◌≤◌, ◌<◌, ℕ, List, [], ◌∷◌, ◌++◌, Option, true, false, length, take, leb, refl, sym, ◌∙◌, ap, subst, arith, append-nil, append_assoc, inl, inr, ◌⊎◌}
+use Rattle.std.proofs.Common.{◌≡◌, ◌≤◌, ◌<◌, ℕ, List, [], ◌∷◌, ◌++◌, Option, Some, true, false, length, take, leb, refl, sym, ◌∙◌, ap, subst, arith, append-nil, append_assoc, inl, inr, ◌⊎◌}
 use Rattle.std.proofs.lemmas.Bool.Decides.{nat_tests}
 use Rattle.std.proofs.lemmas.List.{length-take-le, take_all}
-use Rattle.std.specs.Io.KnownBytes.{Appends}
-use Rattle.std.proofs.KnownBytes.{Appends-nil, Appends-trans}
+use Rattle.std.specs.String.{string_bytes}
+use Rattle.std.specs.Io.KnownBytes.{Appends, Keeps}
+use Rattle.std.proofs.KnownBytes.{Appends-nil, Appends-trans, Appends-kept}
 use Rattle.patr_model.specs.Solved.{solved}
 use Rattle.patr_model.specs.Notations.{lines_with_commands}
 use Rattle.patr_model.specs.Session as session
@@ -11,10 +12,13 @@ use Rattle.patr_model.specs.Session.{Numbering, AgreesWith, Grounds, IsQuit, IsL
 use Rattle.patr_model.specs.Openings.{Answered}
 use Rattle.patr_shell.specs.Spoken.{Spoken, grounds, state_seen}
 use Rattle.patr_shell.specs.Sent.{AppendsFront}
-use Rattle.patr_shell.specs.Answering.{HasQuit, HasAnswered, HasEnded, HasBegun}
+use Rattle.patr_shell.specs.Answering.{IsAnswer, HasQuit, HasAnswered, HasEnded, HasReached, HasBegun}
 use Rattle.patr_shell.specs.declared.state.State.{State}
+use Rattle.patr_shell.specs.declared.answer.Reply.{Reply}
+use Rattle.patr_shell.specs.declared.session.AnswerFault.{AnswerFault}
+use Rattle.patr_shell.specs.declared.session.AnswerFault.TheVariants.{Write}
 use Rattle.patr_shell.proofs.Ends.{longer_by_one}
-use Rattle.patr_shell.proofs.Fronts.{sent_none, sent_whole, front_behind}
+use Rattle.patr_shell.proofs.Fronts.{reached_none, reached_whole, reached_behind}
 
 -- ---- a line of which no more than its first 4098 bytes matter
 
@@ -78,6 +82,16 @@ quit_behind : (ls ms : List (List ℕ)) → HasQuit ms → HasQuit (ls ++ ms)
 quit_behind [] ms stops = stops
 quit_behind (l ∷ ls) ms stops = inr (quit_behind ls ms stops)
 
+-- a line of both ends the session, so one of one of them does
+quit_of_two : (ls ms : List (List ℕ)) → HasQuit (ls ++ ms) → (HasQuit ls → ⊥) → (HasQuit ms → ⊥) → ⊥
+quit_of_two [] ms stops first second = second stops
+quit_of_two (l ∷ ls) ms (inl here) first second = first (inl here)
+quit_of_two (l ∷ ls) ms (inr later) first second = quit_of_two ls ms later (λ q. first (inr q)) second
+
+quit_same : (xs ys : List ℕ) → take 4098 xs ≡ take 4098 ys → (ls : List (List ℕ)) → HasQuit (without_cr xs ∷ ls) → HasQuit (without_cr ys ∷ ls)
+quit_same xs ys same ls (inl here) = inl (same_quit xs ys same here)
+quit_same xs ys same ls (inr later) = inr later
+
 module _ (s : Grounds) where
   abbrev Go : session.State → List (List ℕ) → List ℕ → session.State → Type 0
   Go st ls text end = Answered solved lines_with_commands s st ls text end
@@ -123,25 +137,22 @@ module _ (spoken : Spoken) where
       text = h.text;
       replies = λ N agrees. go_same (grounds N spoken) xs ys same ls (state_seen st) (state_seen end) h.text (h.replies N agrees);
       sent = h.sent;
+      goes_on = λ stops. h.goes_on (quit_same ys xs (sym same) ls stops);
     }
-
-    quit_same : HasQuit (without_cr xs ∷ ls) → HasQuit (without_cr ys ∷ ls)
-    quit_same (inl here) = inl (same_quit xs ys same here)
-    quit_same (inr later) = inr later
 
     pub ended_same : HasEnded spoken st (without_cr xs ∷ ls) a b → HasEnded spoken st (without_cr ys ∷ ls) a b
     ended_same h = record {
       text = h.text;
       replies = λ N agrees. end_same (grounds N spoken) xs ys same ls (state_seen st) h.text (h.replies N agrees);
       sent = h.sent;
-      quit = quit_same h.quit;
+      quit = quit_same xs ys same ls h.quit;
     }
 
-    begun_from : (some others : List (List ℕ)) (text : List ℕ) (end : State) → without_cr xs ∷ ls ≡ some ++ others
-        → ((N : Numbering) → AgreesWith N spoken.texts → Answered solved lines_with_commands (grounds N spoken) (state_seen st) some text (state_seen end)) → AppendsFront a b text
-        → HasBegun spoken st (without_cr ys ∷ ls) a b
-    begun_from [] others text end split replies front = record { some = []; others = without_cr ys ∷ ls; split = refl; text = text; end = end; replies = replies; front = front }
-    begun_from (l ∷ some) others text end split replies front =
+    begun_from : (fault : AnswerFault) (some others : List (List ℕ)) (text : List ℕ) (end : State) → without_cr xs ∷ ls ≡ some ++ others
+        → ((N : Numbering) → AgreesWith N spoken.texts → Answered solved lines_with_commands (grounds N spoken) (state_seen st) some text (state_seen end)) → HasReached fault a b text
+        → HasBegun spoken st (without_cr ys ∷ ls) fault a b
+    begun_from fault [] others text end split replies front = record { some = []; others = without_cr ys ∷ ls; split = refl; text = text; end = end; replies = replies; front = front }
+    begun_from fault (l ∷ some) others text end split replies front =
         let first : l ≡ without_cr xs = cc in
         let rest : ls ≡ some ++ others = cc in
         record {
@@ -155,25 +166,40 @@ module _ (spoken : Spoken) where
           front = front;
         }
 
-    pub begun_same : HasBegun spoken st (without_cr xs ∷ ls) a b → HasBegun spoken st (without_cr ys ∷ ls) a b
-    begun_same h = begun_from h.some h.others h.text h.end h.split h.replies h.front
+    pub begun_same : (fault : AnswerFault) → HasBegun spoken st (without_cr xs ∷ ls) fault a b → HasBegun spoken st (without_cr ys ∷ ls) fault a b
+    begun_same fault h = begun_from fault h.some h.others h.text h.end h.split h.replies h.front
 
   pub answered_none : (st : State) (a : Option (List ℕ)) → HasAnswered spoken st [] st a a
-  answered_none st a = record { text = []; replies = λ N agrees. (refl, refl); sent = Appends-nil a }
+  answered_none st a = record { text = []; replies = λ N agrees. (refl, refl); sent = Appends-nil a; goes_on = λ stops. stops }
 
-  pub begun_none : (st : State) (ls : List (List ℕ)) (a : Option (List ℕ)) → HasBegun spoken st ls a a
-  begun_none st ls a = record { some = []; others = ls; split = refl; text = []; end = st; replies = λ N agrees. (refl, refl); front = ([], sent_none a []) }
+  pub begun_none : (st : State) (ls : List (List ℕ)) (fault : AnswerFault) (a : Option (List ℕ)) → HasBegun spoken st ls fault a a
+  begun_none st ls fault a = record { some = []; others = ls; split = refl; text = []; end = st; replies = λ N agrees. (refl, refl); front = reached_none fault a }
 
   pub ended_one : (st : State) (l : List ℕ) (a : Option (List ℕ)) → IsQuit lines_with_commands l → HasEnded spoken st (l ∷ []) a a
   ended_one st l a stops = record { text = []; replies = λ N agrees. inl (stops, refl, refl); sent = Appends-nil a; quit = inl stops }
+
+  -- what a trimmed line came to is a reply to the line
+  pub line_reply : (st : State) (trimmed l x : List ℕ) (r : Reply) → trimmed ≡ l → x ≡ string_bytes r.text → IsAnswer spoken st trimmed (Some r)
+      → (IsQuit lines_with_commands l → ⊥)
+      × ((N : Numbering) → AgreesWith N spoken.texts → IsLineReply solved lines_with_commands (grounds N spoken) (state_seen st) l x (state_seen r.state))
+  line_reply st trimmed l x r line text answer = (
+    subst (λ b. IsQuit lines_with_commands b → ⊥) line answer.0,
+    λ N agrees. subst (λ b. IsLineReply solved lines_with_commands (grounds N spoken) (state_seen st) b x (state_seen r.state)) line
+        (subst (λ t. IsLineReply solved lines_with_commands (grounds N spoken) (state_seen st) trimmed t (state_seen r.state)) (sym text) (answer.1 N agrees)),
+  )
 
   -- one line is answered
   module _ (st end : State) (l x : List ℕ) (a b : Option (List ℕ)) (other : IsQuit lines_with_commands l → ⊥)
       (reply : (N : Numbering) → AgreesWith N spoken.texts → IsLineReply solved lines_with_commands (grounds N spoken) (state_seen st) l x (state_seen end)) where
     pub answered_one : Appends a b x → HasAnswered spoken st (l ∷ []) end a b
-    answered_one sent = record { text = x; replies = λ N agrees. alone (grounds N spoken) (state_seen st) (state_seen end) l x other (reply N agrees); sent = sent }
+    answered_one sent = record {
+      text = x;
+      replies = λ N agrees. alone (grounds N spoken) (state_seen st) (state_seen end) l x other (reply N agrees);
+      sent = sent;
+      goes_on = λ stops. elim stops [ inl this ↦ other this | inr later ↦ later ];
+    }
 
-    pub begun_one : AppendsFront a b x → HasBegun spoken st (l ∷ []) a b
+    pub begun_one : AppendsFront a b x → HasBegun spoken st (l ∷ []) Write a b
     begun_one front = record {
       some = l ∷ [];
       others = [];
@@ -184,12 +210,16 @@ module _ (spoken : Spoken) where
       front = front;
     }
 
-  pub begun_of_answered : (st end : State) (ls : List (List ℕ)) (a b : Option (List ℕ)) → HasAnswered spoken st ls end a b → HasBegun spoken st ls a b
-  begun_of_answered st end ls a b h =
-      record { some = ls; others = []; split = sym (append-nil ls); text = h.text; end = end; replies = h.replies; front = ([], sent_whole a b h.text h.sent) }
+  -- and then nothing was written
+  pub answered_kept : (st end : State) (ls : List (List ℕ)) (a b c : Option (List ℕ)) → HasAnswered spoken st ls end a b → Keeps b c → HasAnswered spoken st ls end a c
+  answered_kept st end ls a b c h kept = record { text = h.text; replies = h.replies; sent = Appends-kept a b c h.text h.sent kept; goes_on = h.goes_on }
 
-  pub begun_longer : (st : State) (ls ms : List (List ℕ)) (a b : Option (List ℕ)) → HasBegun spoken st ls a b → HasBegun spoken st (ls ++ ms) a b
-  begun_longer st ls ms a b h = record {
+  pub begun_of_answered : (st end : State) (ls : List (List ℕ)) (fault : AnswerFault) (a b : Option (List ℕ)) → HasAnswered spoken st ls end a b → HasBegun spoken st ls fault a b
+  begun_of_answered st end ls fault a b h =
+      record { some = ls; others = []; split = sym (append-nil ls); text = h.text; end = end; replies = h.replies; front = reached_whole fault a b h.text h.sent }
+
+  pub begun_longer : (st : State) (ls ms : List (List ℕ)) (fault : AnswerFault) (a b : Option (List ℕ)) → HasBegun spoken st ls fault a b → HasBegun spoken st (ls ++ ms) fault a b
+  begun_longer st ls ms fault a b h = record {
     some = h.some;
     others = h.others ++ ms;
     split = ap (λ (l : List (List ℕ)). l ++ ms) h.split ∙ append_assoc h.some h.others ms;
@@ -214,6 +244,7 @@ module _ (spoken : Spoken) where
       text = h.text ++ k.text;
       replies = λ N agrees. go_on (grounds N spoken) (state_seen st) (state_seen mid) (state_seen end) ls ms h.text k.text (h.replies N agrees) (k.replies N agrees);
       sent = Appends-trans a b c h.text k.text h.sent k.sent;
+      goes_on = λ stops. quit_of_two ls ms stops h.goes_on k.goes_on;
     }
 
     pub ended_behind : HasEnded spoken mid ms b c → HasEnded spoken st (ls ++ ms) a c
@@ -224,13 +255,13 @@ module _ (spoken : Spoken) where
       quit = quit_behind ls ms k.quit;
     }
 
-    pub begun_behind : HasBegun spoken mid ms b c → HasBegun spoken st (ls ++ ms) a c
-    begun_behind k = record {
+    pub begun_behind : (fault : AnswerFault) → HasBegun spoken mid ms fault b c → HasBegun spoken st (ls ++ ms) fault a c
+    begun_behind fault k = record {
       some = ls ++ k.some;
       others = k.others;
       split = ap (λ (l : List (List ℕ)). ls ++ l) k.split ∙ sym (append_assoc ls k.some k.others);
       text = h.text ++ k.text;
       end = k.end;
       replies = λ N agrees. go_on (grounds N spoken) (state_seen st) (state_seen mid) (state_seen k.end) ls k.some h.text k.text (h.replies N agrees) (k.replies N agrees);
-      front = front_behind a b c h.text k.text h.sent k.front;
+      front = reached_behind fault a b c h.text k.text h.sent k.front;
     }

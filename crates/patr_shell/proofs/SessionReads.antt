@@ -1,18 +1,24 @@
 -- A read of a session, and what is answered then.
-use Rattle.std.proofs.Common.{◌≡◌, ◌<◌, ◌≤◌, ◌-◌, ◌+◌, ℕ, List, ◌++◌, Option, None, Some, IfSome, length, take, drop, min, sym, ◌∙◌, ap, subst, arith, append_assoc, take-append-drop}
-use Rattle.std.proofs.lemmas.List.{length-take-le}
-use Rattle.std.specs.Io.KnownBytes.{Appends, Consumes, IsAtEnd}
-use Rattle.std.proofs.KnownBytes.{Consumes-trans}
+use Rattle.std.proofs.Common.{◌≡◌, ◌<◌, ◌≤◌, ◌-◌, ◌+◌, ℕ, List, [], ◌++◌, Option, None, Some, IfSome, length, take, drop, min, refl, sym, ◌∙◌, ap, subst, arith, append_assoc, append-nil, take-append-drop}
+use Rattle.std.proofs.lemmas.List.{length-take-le, take_all}
+use Rattle.std.specs.Io.KnownBytes.{Appends, Keeps, Consumes, IsAtEnd}
+use Rattle.std.proofs.KnownBytes.{Appends-trans, Consumes-trans}
 use Rattle.patr_model.specs.Session.{whole_lines_of}
-use Rattle.patr_model.specs.Run.{Ending, Done, InputTooLong}
+use Rattle.patr_model.specs.Run as model
+use Rattle.patr_model.specs.Run.{Ending, Done}
 use Rattle.patr_shell.specs.Spoken.{Spoken}
 use Rattle.patr_shell.specs.Sent.{AppendsFront}
 use Rattle.patr_shell.specs.Answering.{last_piece, last_line, too_long_line, HasQuit, HasAnswered, HasEnded, HasTold, HasBegun, HasTakenQuit, HasWrittenSession, HasBegunSession}
+use Rattle.patr_shell.specs.Outcome.{answer_status, HasRunSession}
 use Rattle.patr_shell.specs.declared.state.State.{State}
+use Rattle.patr_shell.specs.declared.status.Status.{Status}
+use Rattle.patr_shell.specs.declared.status.Status.TheVariants.{Memory, InputTooLong}
+use Rattle.patr_shell.specs.declared.session.AnswerFault.{AnswerFault}
+use Rattle.patr_shell.specs.declared.session.AnswerFault.TheVariants as answer_fault
 use Rattle.patr_shell.specs.declared.session.Next.{Next}
 use Rattle.patr_shell.specs.declared.session.Next.TheVariants.{GoesOn, Ends}
 use Rattle.patr_shell.proofs.Cuts.{lines_of_two}
-use Rattle.patr_shell.proofs.Replying.{quit_longer}
+use Rattle.patr_shell.proofs.Replying.{quit_longer, answered_kept, begun_of_answered, begun_longer}
 use Rattle.patr_shell.proofs.SessionStanding.{Stands, stands_piece, stands_end, ended_piece, ended_end, begun_piece, begun_end, begun_so_far}
 use Rattle.patr_shell.proofs.SessionTexts.{told, told_all, take_take, most, within_of, within_piece, at_limit_of, past_limit, front_within, front_whole, front_written, front_past, written_whole, written_ended, written_quit, written_past}
 
@@ -21,11 +27,26 @@ pub front_told : (spoken : Spoken) (st : State) (ending : Ending) (start a c : O
 front_told spoken st ending None a c h = tt
 front_told spoken st ending (Some input) a c h = front_written spoken st input ending a c h
 
+-- a session ends by a fault
+pub faulted : (spoken : Spoken) (st : State) (start now a c : Option (List ℕ)) (fault : AnswerFault) (status : Status) → status ≡ answer_status fault
+    → (fault ≡ answer_fault.Memory → HasRunSession spoken st Memory start now a c) → HasRunSession spoken st status start now a c
+faulted spoken st start now a c answer_fault.Write status is short = subst (λ s. HasRunSession spoken st s start now a c) (sym is) tt
+faulted spoken st start now a c answer_fault.Memory status is short = subst (λ s. HasRunSession spoken st s start now a c) (sym is) (short refl)
+
 module _ (spoken : Spoken) (st mid : State) (bytes held : List ℕ) (a b : Option (List ℕ)) (stands : Stands spoken st mid bytes held a b) (start : Option (List ℕ)) (short : length bytes ≤ most) where
   -- nothing more is read
   pub stopped : (now : Option (List ℕ)) → Consumes start now bytes → IfSome start (λ input. HasBegunSession spoken st input a b)
   stopped now read = told start now bytes (λ input. HasBegunSession spoken st input a b) read
-      (λ rest. let at = within_of bytes rest short in front_within spoken st (bytes ++ rest) bytes at.0 a b (begun_so_far spoken st mid bytes held a b stands) at.1)
+      (λ rest. let at = within_of bytes rest short in front_within spoken st (bytes ++ rest) bytes at.0 answer_fault.Memory a b (begun_so_far spoken st mid bytes held a b stands answer_fault.Memory) at.1)
+
+  -- memory is short behind them
+  pub short_behind : (now : Option (List ℕ)) → Consumes start now bytes → (c : Option (List ℕ)) → Keeps b c → HasRunSession spoken st Memory start now a c
+  short_behind now read c kept =
+      let answered = answered_kept spoken st mid (whole_lines_of bytes) a b c stands.answered kept in (
+        bytes,
+        read,
+        subst (λ l. HasBegun spoken st (whole_lines_of l) answer_fault.Memory a c) (sym (take_all most bytes short)) (begun_of_answered spoken st mid (whole_lines_of bytes) answer_fault.Memory a c answered),
+      )
 
   -- the input is at its end
   module _ (now : Option (List ℕ)) (read : Consumes start now bytes) (end : IsAtEnd now) (c : Option (List ℕ)) where
@@ -35,9 +56,9 @@ module _ (spoken : Spoken) (st mid : State) (bytes held : List ℕ) (a b : Optio
     ended_whole Ends next stops = told_all start now bytes (λ input. HasWrittenSession spoken st input Done a c) read end
         (written_ended spoken st bytes a c short (ended_end spoken st mid bytes held a b stands c stops))
 
-    pub ended_front : HasBegun spoken mid (last_line held) b c → IfSome start (λ input. HasBegunSession spoken st input a c)
-    ended_front begun = told_all start now bytes (λ input. HasBegunSession spoken st input a c) read end
-        (front_whole spoken st bytes a c short (begun_end spoken st mid bytes held a b stands c begun))
+    pub ended_front : (fault : AnswerFault) → HasBegun spoken mid (last_line held) fault b c → IfSome start (λ input. HasBegunSession spoken st input a c)
+    ended_front fault begun = told_all start now bytes (λ input. HasBegunSession spoken st input a c) read end
+        (front_whole spoken st bytes fault a c short (begun_end spoken st mid bytes held a b stands c fault begun))
 
   -- a piece is read, of which this much is within the limit
   module _ (before now : Option (List ℕ)) (first : Consumes start before bytes) (buf : List ℕ) (count within : ℕ) (next : Consumes before now (take count buf)) (bound : count ≤ length buf)
@@ -51,12 +72,30 @@ module _ (spoken : Spoken) (st mid : State) (bytes held : List ℕ) (a b : Optio
     long : length (take count buf) ≡ count
     long = length-take-le count buf bound
 
-    pub begun_read : (c : Option (List ℕ)) → HasBegun spoken mid (whole_lines_of (held ++ take within buf)) b c → IfSome start (λ input. HasBegunSession spoken st input a c)
-    begun_read c begun = told start now (bytes ++ take count buf) (λ input. HasBegunSession spoken st input a c) read
-        (λ rest.
-        let at = within_piece bytes (take count buf) rest within (omega arith) (omega (arith, long)) in
-        let here = subst (λ l. HasBegun spoken mid (whole_lines_of (held ++ l)) b c) (sym part) begun in
-        front_within spoken st ((bytes ++ take count buf) ++ rest) (bytes ++ take within (take count buf)) at.0 a c (begun_piece spoken st mid bytes held a b stands (take within (take count buf)) c here) at.1)
+    module _ (c : Option (List ℕ)) (fault : AnswerFault) (begun : HasBegun spoken mid (whole_lines_of (held ++ take within buf)) fault b c) where
+      all_begun : HasBegun spoken st (whole_lines_of (bytes ++ take within (take count buf))) fault a c
+      all_begun = begun_piece spoken st mid bytes held a b stands (take within (take count buf)) c fault
+          (subst (λ l. HasBegun spoken mid (whole_lines_of (held ++ l)) fault b c) (sym part) begun)
+
+      pub begun_read : IfSome start (λ input. HasBegunSession spoken st input a c)
+      begun_read = told start now (bytes ++ take count buf) (λ input. HasBegunSession spoken st input a c) read
+          (λ rest.
+          let at = within_piece bytes (take count buf) rest within (omega arith) (omega (arith, long)) in
+          front_within spoken st ((bytes ++ take count buf) ++ rest) (bytes ++ take within (take count buf)) at.0 fault a c all_begun at.1)
+
+      taken_begun : (taken : List ℕ) × Consumes start now taken × HasBegun spoken st (whole_lines_of (take most taken)) fault a c
+      taken_begun =
+          let front = bytes ++ take within (take count buf) in
+          let at = within_piece bytes (take count buf) [] within (omega arith) (omega (arith, long)) in
+          let is : take most (bytes ++ take count buf) ≡ front ++ at.0 = ap (take most) (sym (append-nil (bytes ++ take count buf))) ∙ at.1 in (
+            bytes ++ take count buf,
+            read,
+            subst (λ l. HasBegun spoken st l fault a c) (sym (ap whole_lines_of is ∙ lines_of_two front at.0))
+                (begun_longer spoken st (whole_lines_of front) (whole_lines_of (last_piece front ++ at.0)) fault a c all_begun),
+          )
+
+      pub short_taken : fault ≡ answer_fault.Memory → HasRunSession spoken st Memory start now a c
+      short_taken is = subst (λ f. (taken : List ℕ) × Consumes start now taken × HasBegun spoken st (whole_lines_of (take most taken)) f a c) is taken_begun
 
     -- a line of it ends the session
     module _ (c : Option (List ℕ)) (stops : HasEnded spoken mid (whole_lines_of (held ++ take within buf)) b c) where
@@ -105,10 +144,19 @@ module _ (spoken : Spoken) (st mid : State) (bytes held : List ℕ) (a b : Optio
             subst (λ l. HasAnswered spoken st (whole_lines_of l) after a c) (sym (limit_reached rest))
             (stands_piece spoken st mid bytes held a b stands (take within buf) c after left answered kept).answered
 
-        pub past_whole : (d : Option (List ℕ)) → Appends c d too_long_line → IfSome start (λ input. HasWrittenSession spoken st input InputTooLong a d)
-        past_whole d line = told start now (bytes ++ take count buf) (λ input. HasWrittenSession spoken st input InputTooLong a d) read
+        pub past_whole : (d : Option (List ℕ)) → Appends c d too_long_line → IfSome start (λ input. HasWrittenSession spoken st input model.InputTooLong a d)
+        past_whole d line = told start now (bytes ++ take count buf) (λ input. HasWrittenSession spoken st input model.InputTooLong a d) read
             (λ rest. written_past spoken st after ((bytes ++ take count buf) ++ rest) a c d (is_past rest) (all_answered rest) line)
 
         pub past_front : (d : Option (List ℕ)) → AppendsFront c d too_long_line → IfSome start (λ input. HasBegunSession spoken st input a d)
         past_front d line = told start now (bytes ++ take count buf) (λ input. HasBegunSession spoken st input a d) read
             (λ rest. front_past spoken st after ((bytes ++ take count buf) ++ rest) a c d (is_past rest) (all_answered rest) line)
+
+        pub past_taken : (d : Option (List ℕ)) → Appends c d too_long_line → HasRunSession spoken st InputTooLong start now a d
+        past_taken d line =
+            let all = bytes ++ take count buf in
+            let answered = subst (λ l. HasAnswered spoken st (whole_lines_of (take most l)) after a c) (append-nil all) (all_answered []) in
+            let long : most < length all = subst (λ l. most < length l) (append-nil all) (is_past []) in (
+              (all, read, long, answered.goes_on),
+              (answered.text, Appends-trans a c d answered.text too_long_line answered.sent line),
+            )

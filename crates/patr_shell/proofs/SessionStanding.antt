@@ -5,6 +5,7 @@ use Rattle.patr_model.specs.Session.{without_cr, without_empty, whole_lines_from
 use Rattle.patr_shell.specs.Spoken.{Spoken}
 use Rattle.patr_shell.specs.Answering.{HasNoFeed, last_of, last_piece, last_line, HasAnswered, HasEnded, HasBegun}
 use Rattle.patr_shell.specs.declared.state.State.{State}
+use Rattle.patr_shell.specs.declared.session.AnswerFault.{AnswerFault}
 use Rattle.patr_shell.proofs.Cuts.{cut, lines_behind, piece_behind, piece_is_free, take_is_free, lines_of_two, piece_of_two, lines_are}
 use Rattle.patr_shell.proofs.Ends.{kept_behind, take_once}
 use Rattle.patr_shell.proofs.Replying.{one_or_long, answered_none, answered_behind, answered_same, ended_behind, ended_same, begun_same, begun_behind, begun_of_answered}
@@ -97,11 +98,11 @@ module _ (spoken : Spoken) (st : State) where
           (last_piece bytes) held (piece_is_free bytes) stands.kept piece ended))
 
       -- it is answered in part
-      pub begun_piece : HasBegun spoken mid (whole_lines_of (held ++ piece)) b c → HasBegun spoken st (whole_lines_of (bytes ++ piece)) a c
-      begun_piece begun =
-          subst (λ l. HasBegun spoken st l a c) (sym (lines_of_two bytes piece))
-          (begun_behind spoken st mid (whole_lines_of bytes) (whole_lines_of (last_piece bytes ++ piece)) a b c stands.answered
-          (lines_with (λ l. HasBegun spoken mid l b c) (λ xs ys same ls h. begun_same spoken xs ys same ls mid b c h)
+      pub begun_piece : (fault : AnswerFault) → HasBegun spoken mid (whole_lines_of (held ++ piece)) fault b c → HasBegun spoken st (whole_lines_of (bytes ++ piece)) fault a c
+      begun_piece fault begun =
+          subst (λ l. HasBegun spoken st l fault a c) (sym (lines_of_two bytes piece))
+          (begun_behind spoken st mid (whole_lines_of bytes) (whole_lines_of (last_piece bytes ++ piece)) a b c stands.answered fault
+          (lines_with (λ l. HasBegun spoken mid l fault b c) (λ xs ys same ls h. begun_same spoken xs ys same ls mid b c fault h)
           (last_piece bytes) held (piece_is_free bytes) stands.kept piece begun))
 
     -- no more comes
@@ -121,11 +122,11 @@ module _ (spoken : Spoken) (st : State) where
           (ended_behind spoken st mid (whole_lines_of bytes) (last_line (last_piece bytes)) a b c stands.answered
           (last_alike (λ l. HasEnded spoken mid l b c) (λ xs ys same ls h. ended_same spoken xs ys same ls mid b c h) held (last_piece bytes) kept_same ended))
 
-      pub begun_end : HasBegun spoken mid (last_line held) b c → HasBegun spoken st (lines_of bytes) a c
-      begun_end begun =
-          subst (λ l. HasBegun spoken st l a c) (sym (lines_are bytes))
-          (begun_behind spoken st mid (whole_lines_of bytes) (last_line (last_piece bytes)) a b c stands.answered
-          (last_alike (λ l. HasBegun spoken mid l b c) (λ xs ys same ls h. begun_same spoken xs ys same ls mid b c h) held (last_piece bytes) kept_same begun))
+      pub begun_end : (fault : AnswerFault) → HasBegun spoken mid (last_line held) fault b c → HasBegun spoken st (lines_of bytes) fault a c
+      begun_end fault begun =
+          subst (λ l. HasBegun spoken st l fault a c) (sym (lines_are bytes))
+          (begun_behind spoken st mid (whole_lines_of bytes) (last_line (last_piece bytes)) a b c stands.answered fault
+          (last_alike (λ l. HasBegun spoken mid l fault b c) (λ xs ys same ls h. begun_same spoken xs ys same ls mid b c fault h) held (last_piece bytes) kept_same begun))
 
-    pub begun_so_far : HasBegun spoken st (whole_lines_of bytes) a b
-    begun_so_far = begun_of_answered spoken st mid (whole_lines_of bytes) a b stands.answered
+    pub begun_so_far : (fault : AnswerFault) → HasBegun spoken st (whole_lines_of bytes) fault a b
+    begun_so_far fault = begun_of_answered spoken st mid (whole_lines_of bytes) fault a b stands.answered

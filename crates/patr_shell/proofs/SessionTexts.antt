@@ -18,9 +18,10 @@ use Rattle.patr_shell.specs.Spoken.{Spoken, grounds, state_seen}
 use Rattle.patr_shell.specs.Sent.{AppendsFront}
 use Rattle.patr_shell.specs.Answering.{HasAnswered, HasEnded, HasBegun, HasWrittenSession, HasBegunSession, too_long_line, last_piece, last_line}
 use Rattle.patr_shell.specs.declared.state.State.{State}
+use Rattle.patr_shell.specs.declared.session.AnswerFault.{AnswerFault}
 use Rattle.patr_shell.proofs.Cuts.{lines_of_two, lines_are}
 use Rattle.patr_shell.proofs.Ends.{take_two}
-use Rattle.patr_shell.proofs.Fronts.{front_longer, front_behind, whole_front}
+use Rattle.patr_shell.proofs.Fronts.{front_longer, front_behind, whole_front, reached_front}
 use Rattle.patr_shell.proofs.Replying.{ended_longer}
 
 -- ---- what is told of an input
@@ -101,36 +102,36 @@ module _ (spoken : Spoken) (st : State) where
     replied from end (l ∷ ls) x h = inr (h.0, h.1, h.2, h.3, h.4, replied h.2 end ls h.3 h.5, h.6)
 
     -- the replies to the first lines begin each text
-    begun_text : (ls rest : List (List ℕ)) (text : List ℕ) (stops : Bool) (a b : Option (List ℕ)) → HasBegun spoken st ls a b → Texts (state_seen st) (ls ++ rest) text stops → AppendsFront a b text
-    begun_text ls rest text stops a b h r =
+    begun_text : (ls rest : List (List ℕ)) (text : List ℕ) (stops : Bool) (fault : AnswerFault) (a b : Option (List ℕ)) → HasBegun spoken st ls fault a b → Texts (state_seen st) (ls ++ rest) text stops → AppendsFront a b text
+    begun_text ls rest text stops fault a b h r =
         let split = ap (λ (l : List (List ℕ)). l ++ rest) h.split ∙ append_assoc h.some h.others rest in
         let at = (session_begins (grounds N spoken)).begins (state_seen st) (state_seen h.end) h.some (h.others ++ rest) h.text text stops (h.replies N agrees)
         (subst (λ l. Texts (state_seen st) l text stops) split r) in
-        subst (AppendsFront a b) (sym at.1) (front_longer a b h.text at.0 h.front)
+        subst (AppendsFront a b) (sym at.1) (front_longer a b h.text at.0 (reached_front fault a b h.text h.front))
 
     abbrev IsText : List ℕ → List ℕ → Ending → Type 0
     IsText input text ending = IsSession built (grounds N spoken) (state_seen st) input text ending
 
     -- of the lines within the limit the first are answered
-    begun_within : (input bytes more text : List ℕ) (ending : Ending) (a b : Option (List ℕ)) → HasBegun spoken st (whole_lines_of bytes) a b → take most input ≡ bytes ++ more → IsText input text ending → AppendsFront a b text
-    begun_within input bytes more text ending a b h is (ended short stops r e) =
+    begun_within : (input bytes more text : List ℕ) (ending : Ending) (fault : AnswerFault) (a b : Option (List ℕ)) → HasBegun spoken st (whole_lines_of bytes) fault a b → take most input ≡ bytes ++ more → IsText input text ending → AppendsFront a b text
+    begun_within input bytes more text ending fault a b h is (ended short stops r e) =
         let whole = sym (take_all most input short) ∙ is in
-        begun_text (whole_lines_of bytes) (whole_lines_of (last_piece bytes ++ more) ++ last_line (last_piece (bytes ++ more))) text stops a b h
+        begun_text (whole_lines_of bytes) (whole_lines_of (last_piece bytes ++ more) ++ last_line (last_piece (bytes ++ more))) text stops fault a b h
         (subst (λ l. Texts (state_seen st) l text stops) (ap lines_of whole ∙ lines_go_on bytes more) r)
-    begun_within input bytes more text ending a b h is (quit past r e) =
-        begun_text (whole_lines_of bytes) (whole_lines_of (last_piece bytes ++ more)) text true a b h
+    begun_within input bytes more text ending fault a b h is (quit past r e) =
+        begun_text (whole_lines_of bytes) (whole_lines_of (last_piece bytes ++ more)) text true fault a b h
         (subst (λ l. Texts (state_seen st) l text true) (ap whole_lines_of is ∙ lines_of_two bytes more) r)
-    begun_within input bytes more text ending a b h is (too_long past before r t e) =
-        let first = begun_text (whole_lines_of bytes) (whole_lines_of (last_piece bytes ++ more)) before false a b h
+    begun_within input bytes more text ending fault a b h is (too_long past before r t e) =
+        let first = begun_text (whole_lines_of bytes) (whole_lines_of (last_piece bytes ++ more)) before false fault a b h
         (subst (λ l. Texts (state_seen st) l before false) (ap whole_lines_of is ∙ lines_of_two bytes more) r) in
         subst (AppendsFront a b) (sym t) (front_longer a b before too_long_line first)
 
     -- of the lines of a whole input the first are answered
-    begun_whole : (input text : List ℕ) (ending : Ending) (a b : Option (List ℕ)) → length input ≤ most → HasBegun spoken st (lines_of input) a b → IsText input text ending → AppendsFront a b text
-    begun_whole input text ending a b here h (ended short stops r e) =
-        begun_text (lines_of input) [] text stops a b h (subst (λ l. Texts (state_seen st) l text stops) (sym (append-nil (lines_of input))) r)
-    begun_whole input text ending a b here h (quit past r e) = absurd (omega (arith, here, past))
-    begun_whole input text ending a b here h (too_long past before r t e) = absurd (omega (arith, here, past))
+    begun_whole : (input text : List ℕ) (ending : Ending) (fault : AnswerFault) (a b : Option (List ℕ)) → length input ≤ most → HasBegun spoken st (lines_of input) fault a b → IsText input text ending → AppendsFront a b text
+    begun_whole input text ending fault a b here h (ended short stops r e) =
+        begun_text (lines_of input) [] text stops fault a b h (subst (λ l. Texts (state_seen st) l text stops) (sym (append-nil (lines_of input))) r)
+    begun_whole input text ending fault a b here h (quit past r e) = absurd (omega (arith, here, past))
+    begun_whole input text ending fault a b here h (too_long past before r t e) = absurd (omega (arith, here, past))
 
     -- all lines within the limit are answered, and more comes
     past_text : (end : State) (input : List ℕ) (a b : Option (List ℕ)) → most < length input → (h : HasAnswered spoken st (whole_lines_of (take most input)) end a b) → IsText input (h.text ++ too_long_line) InputTooLong
@@ -138,11 +139,11 @@ module _ (spoken : Spoken) (st : State) where
 
   -- ---- what a session has written
 
-  pub front_within : (input bytes more : List ℕ) (a b : Option (List ℕ)) → HasBegun spoken st (whole_lines_of bytes) a b → take most input ≡ bytes ++ more → HasBegunSession spoken st input a b
-  front_within input bytes more a b h is = λ N agrees text ending session. begun_within N agrees input bytes more text ending a b h is session
+  pub front_within : (input bytes more : List ℕ) (fault : AnswerFault) (a b : Option (List ℕ)) → HasBegun spoken st (whole_lines_of bytes) fault a b → take most input ≡ bytes ++ more → HasBegunSession spoken st input a b
+  front_within input bytes more fault a b h is = λ N agrees text ending session. begun_within N agrees input bytes more text ending fault a b h is session
 
-  pub front_whole : (input : List ℕ) (a b : Option (List ℕ)) → length input ≤ most → HasBegun spoken st (lines_of input) a b → HasBegunSession spoken st input a b
-  front_whole input a b short h = λ N agrees text ending session. begun_whole N agrees input text ending a b short h session
+  pub front_whole : (input : List ℕ) (fault : AnswerFault) (a b : Option (List ℕ)) → length input ≤ most → HasBegun spoken st (lines_of input) fault a b → HasBegunSession spoken st input a b
+  front_whole input fault a b short h = λ N agrees text ending session. begun_whole N agrees input text ending fault a b short h session
 
   -- what is a text is a front of each
   pub front_written : (input : List ℕ) (ending : Ending) (a b : Option (List ℕ)) → HasWrittenSession spoken st input ending a b → HasBegunSession spoken st input a b

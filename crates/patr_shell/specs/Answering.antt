@@ -1,8 +1,8 @@
 -- The answers to lines under a language, and what of them reached a sink.
 --     IsAnswer s st bytes a           what a line comes to
 --     HasAnswered, HasEnded           lines were answered, none of which or one of which ends the session
---     HasBegun                        the first of the lines were answered, the last of them maybe in part
-use Rattle.std.specs.Prelude.{◌≡◌, ◌⊎◌, ℕ, nat_eq, List, [], ◌∷◌, ◌++◌, Bool, true, false, Option, Some, None, Result, Err, codes}
+--     HasBegun                        the first of the lines were answered, and then memory was short or a write failed
+use Rattle.std.specs.Prelude.{◌≡◌, ◌⊎◌, ◌<◌, ◌^◌, ℕ, length, take, nat_eq, List, [], ◌∷◌, ◌++◌, Bool, true, false, Option, Some, None, Result, Err, codes}
 use Rattle.std.specs.String.{string_bytes}
 use Rattle.std.specs.Io.KnownBytes.{Appends, Consumes}
 use Rattle.patr_model.specs.Solved.{solved}
@@ -18,7 +18,7 @@ use Rattle.patr_shell.specs.declared.command.Command.{Command}
 use Rattle.patr_shell.specs.declared.command.Command.TheVariants.{Quit}
 use Rattle.patr_shell.specs.declared.answer.Reply.{Reply}
 use Rattle.patr_shell.specs.declared.session.AnswerFault.{AnswerFault}
-use Rattle.patr_shell.specs.declared.session.AnswerFault.TheVariants.{Write}
+use Rattle.patr_shell.specs.declared.session.AnswerFault.TheVariants.{Write, Memory}
 use Rattle.patr_shell.specs.declared.session.Next.{Next}
 use Rattle.patr_shell.specs.declared.session.Next.TheVariants.{GoesOn, Ends}
 
@@ -56,15 +56,6 @@ last_of first (next ∷ rest) = last_of next rest
 abbrev pub last_piece : List ℕ → List ℕ
 last_piece bytes = last_of (cut_at (nat_eq 10) bytes).first (cut_at (nat_eq 10) bytes).rest
 
--- the bytes up to the last LF, by the pieces between them
-abbrev pub joined_by_feeds : List ℕ → List (List ℕ) → List ℕ
-joined_by_feeds first [] = []
-joined_by_feeds first (next ∷ rest) = first ++ 10 ∷ joined_by_feeds next rest
-
--- the bytes up to the last LF
-abbrev pub ended_part : List ℕ → List ℕ
-ended_part bytes = joined_by_feeds (cut_at (nat_eq 10) bytes).first (cut_at (nat_eq 10) bytes).rest
-
 -- no LF stands in the bytes
 abbrev pub HasNoFeed : List ℕ → Type 0
 HasNoFeed bytes = (cut_at (nat_eq 10) bytes).rest ≡ []
@@ -85,6 +76,7 @@ pub record HasAnswered (spoken : Spoken) (st : State) (lines : List (List ℕ)) 
   pub text : List ℕ
   pub replies : (N : Numbering) → AgreesWith N spoken.texts → Answered solved lines_with_commands (grounds N spoken) (state_seen st) lines text (state_seen end)
   pub sent : Appends old new text
+  pub goes_on : HasQuit lines → ⊥
 
 -- each line before the one that ends the session was answered on the sink, in order
 pub record HasEnded (spoken : Spoken) (st : State) (lines : List (List ℕ)) (old new : Option (List ℕ)) : Type 0 where
@@ -98,15 +90,20 @@ abbrev pub HasTold : Spoken → State → List (List ℕ) → Next → State →
 HasTold spoken st lines GoesOn end old new = HasAnswered spoken st lines end old new
 HasTold spoken st lines Ends end old new = HasEnded spoken st lines old new
 
--- the first of the lines were answered on the sink, in order, the last of them maybe in part
-pub record HasBegun (spoken : Spoken) (st : State) (lines : List (List ℕ)) (old new : Option (List ℕ)) : Type 0 where
+-- what of a text reached the sink: all of it where memory was short behind it, and a front of it where a write failed
+abbrev pub HasReached : AnswerFault → Option (List ℕ) → Option (List ℕ) → List ℕ → Type 0
+HasReached Write old new text = AppendsFront old new text
+HasReached Memory old new text = Appends old new text
+
+-- the first of the lines were answered on the sink, in order, the last of them in part at most where a write failed
+pub record HasBegun (spoken : Spoken) (st : State) (lines : List (List ℕ)) (fault : AnswerFault) (old new : Option (List ℕ)) : Type 0 where
   pub some : List (List ℕ)
   pub others : List (List ℕ)
   pub split : lines ≡ some ++ others
   pub text : List ℕ
   pub end : State
   pub replies : (N : Numbering) → AgreesWith N spoken.texts → Answered solved lines_with_commands (grounds N spoken) (state_seen st) some text (state_seen end)
-  pub front : AppendsFront old new text
+  pub front : HasReached fault old new text
 
 -- the line that refuses a longer input
 abbrev pub too_long_line : List ℕ
@@ -122,6 +119,10 @@ is_write_fault _ = false
 -- bytes were taken in which a line ends that ends the session
 abbrev pub HasTakenQuit : Option (List ℕ) → Option (List ℕ) → Type 0
 HasTakenQuit left left' = (taken : List ℕ) × Consumes left left' taken × HasQuit (whole_lines_of taken)
+
+-- more bytes were taken than an input may have, and no line that ends within its size ends the session
+abbrev pub HasTakenMore : Option (List ℕ) → Option (List ℕ) → Type 0
+HasTakenMore left left' = (taken : List ℕ) × Consumes left left' taken × (16777216 < length taken) × (HasQuit (whole_lines_of (take (2 ^ 24) taken)) → ⊥)
 
 -- the text of a session over the whole input, whatever the numbering, was written
 pub record HasWrittenSession (spoken : Spoken) (st : State) (input : List ℕ) (ending : Ending) (old new : Option (List ℕ)) : Type 0 where

@@ -1,8 +1,9 @@
 -- What a run writes, how it ends, and why.
-use Rattle.std.specs.Prelude.{◌≡◌, ◌⊎◌, ◌≤◌, ◌^◌, ℕ, List, length, take, Bool, true, false, Option, Some, None, Result, Err, ⊤, codes}
+use Rattle.std.specs.Prelude.{◌≡◌, ◌⊎◌, ◌≤◌, ◌^◌, ℕ, List, [], ◌++◌, length, take, Bool, true, false, Option, Some, None, IfSome, Result, Err, ⊤, codes}
+use Rattle.std.specs.Bool.{OnTrue, OnFalse}
 use Rattle.std.specs.FinMap.{get}
-use Rattle.std.specs.Io.KnownBytes.{Appends, Consumes}
-use Rattle.patr_io.specs.Causes.{Rose}
+use Rattle.std.specs.Io.KnownBytes.{Appends, Consumes, IsAtEnd}
+use Rattle.patr_io.specs.Causes.{Rose, HasCause}
 use Rattle.patr_io.specs.Files.{Files, HasFile, HasLongFile, IsAbsent}
 use Rattle.patr_model.specs.Session.{Numbering, AgreesWith, line, whole_lines_of}
 use Rattle.patr_model.specs.Run.{Ending, Done as IsDone, BadWords as AreBadWords, BadGrammar as IsBadGrammar, BadLexicon as IsBadLexicon, NotRead, InputTooLong as IsInputTooLong, Setup, Session, usage, IsOpening, IsOut}
@@ -16,8 +17,8 @@ use Rattle.patr_grammar.specs.Reading.{fault_of}
 use Rattle.patr_lexicon.specs.Reading.{fault_of as lexicon_fault_of}
 use Rattle.patr_expand.specs.Seen.{cause_seen}
 use Rattle.patr_shell.specs.Spoken.{Spoken, grounds, state_seen}
-use Rattle.patr_shell.specs.Sent.{AppendsFront}
-use Rattle.patr_shell.specs.Answering.{ended_part, HasQuit}
+use Rattle.patr_shell.specs.Sent.{AppendsFront, EndsWith}
+use Rattle.patr_shell.specs.Answering.{last_piece, HasNoFeed, HasQuit, HasAnswered, HasBegun, HasTakenQuit, HasTakenMore, too_long_line}
 use Rattle.patr_shell.specs.declared.state.State.{State}
 use Rattle.patr_shell.specs.declared.status.GrammarTrouble.{GrammarTrouble}
 use Rattle.patr_shell.specs.declared.status.GrammarTrouble.TheVariants as grammar_trouble
@@ -86,6 +87,17 @@ IsSessionStatus status = is_refusal status ≡ false
 abbrev pub answer_status : AnswerFault → Status
 answer_status answer_fault.Write = WriteFault
 answer_status answer_fault.Memory = Memory
+
+-- What a session with this status has taken of the input and answered of it, told or not: after a read that failed
+-- each line whose end was taken, and after want of memory the first of them, no line in part.
+abbrev pub HasRunSession : Spoken → State → Status → Option (List ℕ) → Option (List ℕ) → Option (List ℕ) → Option (List ℕ) → Type 0
+HasRunSession spoken st Done left left' old new = IsAtEnd left' ⊎ HasTakenQuit left left'
+HasRunSession spoken st ReadFault left left' old new =
+    (taken : List ℕ) × Consumes left left' taken × (length taken ≤ 16777216) × (end : State) × HasAnswered spoken st (whole_lines_of taken) end old new
+HasRunSession spoken st Memory left left' old new =
+    (taken : List ℕ) × Consumes left left' taken × HasBegun spoken st (whole_lines_of (take (2 ^ 24) taken)) answer_fault.Memory old new
+HasRunSession spoken st InputTooLong left left' old new = HasTakenMore left left' × EndsWith old new too_long_line
+HasRunSession spoken st status left left' old new = ⊤
 
 -- ---- the words and the files
 
@@ -193,9 +205,13 @@ refusal_line (refusal.Lexicon lexicon_trouble.TooLong) = line (codes "error: lex
 refusal_line (refusal.Lexicon (lexicon_trouble.Text cause)) = lexicon_fault_line (lexicon_fault_of cause)
 refusal_line (refusal.Lexicon (lexicon_trouble.Expand cause)) = size_fault_line (codes "lexicon") (cause_seen cause)
 
--- how a run ends whose refusal is to be written: by it, or since it could not be
-abbrev pub IsEndOf : Refusal → Status → Type 0
-IsEndOf r status = (status ≡ status_of r) ⊎ (status ≡ WriteFault) ⊎ (status ≡ Memory)
+-- how a run ends whose refusal is to be written: by it, with its line written, or by a write that failed, or by want of
+-- memory with nothing written
+abbrev pub IsEndOf : Refusal → Status → Option (List ℕ) → Option (List ℕ) → Type 0
+IsEndOf r status old new =
+    ((status ≡ status_of r) × Appends old new (refusal_line r))
+    ⊎ (status ≡ WriteFault)
+    ⊎ ((status ≡ Memory) × (new ≡ old))
 
 -- ---- what a run writes
 
@@ -209,9 +225,64 @@ pub record HasWritten (words : List (List ℕ)) (files : Files) (input : List �
 abbrev pub HasBegunRun : List (List ℕ) → Files → List ℕ → Option (List ℕ) → Option (List ℕ) → Type 0
 HasBegunRun words files input old new = (N : Numbering) (text : List ℕ) (ending : Ending) → IsOut built N words (get files) input text ending → AppendsFront old new text
 
--- some bytes of the input were taken, and what was written is the text of a run over those up to the last LF: each line whose end was taken is answered, and nothing else
-abbrev pub HasAnsweredTaken : List (List ℕ) → Files → Option (List ℕ) → Option (List ℕ) → Option (List ℕ) → Option (List ℕ) → Type 0
-HasAnsweredTaken words files left left' old new = (taken : List ℕ) × Consumes left left' taken × HasWritten words files (ended_part taken) Done old new
+-- what a run with this status writes: its whole text, and where a device failed or memory was short a front of it
+pub record Writes (words : List (List ℕ)) (files : Files) (input : List ℕ) (status : Status) (old new : Option (List ℕ)) : Type 0 where
+  pub whole : OnTrue (is_definite status) (HasWritten words files input status old new)
+  pub front : HasBegunRun words files input old new
+
+-- what was written is the text of a run over the first lines of what was taken, each with its LF: the replies to these
+-- lines, and nothing else
+pub record HasAnsweredFirst (words : List (List ℕ)) (files : Files) (left left' old new : Option (List ℕ)) : Type 0 where
+  pub lines : List ℕ
+  pub rest : List ℕ
+  pub taken : Consumes left left' (lines ++ rest)
+  pub whole : last_piece lines ≡ []
+  pub written : HasWritten words files lines Done old new
+
+-- and these are all the lines that end in what was taken
+pub record HasAnsweredTaken (words : List (List ℕ)) (files : Files) (left left' old new : Option (List ℕ)) : Type 0 where
+  pub answered : HasAnsweredFirst words files left left' old new
+  pub all : HasNoFeed answered.rest
+
+-- nothing was taken, and nothing written
+abbrev pub IsUntouched : Option (List ℕ) → Option (List ℕ) → Option (List ℕ) → Option (List ℕ) → Type 0
+IsUntouched left left' old new = (left' ≡ left) × (new ≡ old)
+
+-- nothing was taken, and the line of this refusal is all that was written
+abbrev pub IsRefused : Refusal → Option (List ℕ) → Option (List ℕ) → Option (List ℕ) → Option (List ℕ) → Type 0
+IsRefused r left left' old new = (left' ≡ left) × Appends old new (refusal_line r)
+
+-- What a run with this status has taken of the input and written, told or not: a refusal's line is the last, and before
+-- a session it is all; after a read that failed each line whose end was taken is answered, and after want of memory
+-- the first of them, no line in part.
+abbrev pub HasRun : List (List ℕ) → Option Files → Status → Option (List ℕ) → Option (List ℕ) → Option (List ℕ) → Option (List ℕ) → Type 0
+HasRun words files Done left left' old new = IsAtEnd left' ⊎ HasTakenQuit left left'
+HasRun words files BadWords left left' old new = IsRefused refusal.Words left left' old new
+HasRun words files (BadGrammar trouble) left left' old new = IsRefused (refusal.Grammar trouble) left left' old new
+HasRun words files (BadLexicon trouble) left left' old new = IsRefused (refusal.Lexicon trouble) left left' old new
+HasRun words files ReadFault left left' old new = IsUntouched left left' old new ⊎ IfSome files (λ f. HasAnsweredTaken words f left left' old new)
+HasRun words files WriteFault left left' old new = ⊤
+HasRun words files Memory left left' old new = IsUntouched left left' old new ⊎ IfSome files (λ f. HasAnsweredFirst words f left left' old new)
+HasRun words files InputTooLong left left' old new = HasTakenMore left left' × EndsWith old new too_long_line
+
+-- ---- why a run ends
+
+-- a read failed: the source's count of faults rose, or a file that is looked at could not be loaded
+abbrev pub CannotRead : List (List ℕ) → Option Files → ℕ → ℕ → ℕ → ℕ → Option (List ℕ) → Type 0
+CannotRead words files source source' shelf shelf' failed_name =
+    Rose source source' ⊎ ((name : List ℕ) × LooksAt words files name × CannotLoad files shelf shelf' failed_name name)
+
+-- no count of faults rises but where the status says that a read or a write failed
+pub record KeepsCounts (status : Status) (source source' shelf shelf' sink sink' : ℕ) : Type 0 where
+  pub source_well : OnFalse (ended_by_read status) (source' ≡ source)
+  pub shelf_well : OnFalse (ended_by_read status) (shelf' ≡ shelf)
+  pub sink_cause : HasCause sink sink' (ended_by_write status)
+
+-- no count of faults rose
+pub record NoneRose (source source' shelf shelf' sink sink' : ℕ) : Type 0 where
+  pub source_still : Rose source source' → ⊥
+  pub shelf_still : Rose shelf shelf' → ⊥
+  pub sink_still : Rose sink sink' → ⊥
 
 -- an input within its size, or one in which a line ends within that size that ends the session
 abbrev pub IsWithin : List ℕ → Type 0

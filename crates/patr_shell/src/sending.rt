@@ -1,8 +1,8 @@
 //! Texts that are written whole.
 ghost use Rattle.std.specs.Prelude.{◌≡◌, length, OnOk, OnErr, is_err};
 ghost use Rattle.std.specs.Io.KnownBytes.{Appends};
-ghost use Rattle.patr_io.specs.Causes.{HasCause, IsFlushed};
-ghost use Rattle.patr_shell.specs.Sent.{AppendsFront};
+ghost use Rattle.patr_io.specs.Causes.{HasCause};
+ghost use Rattle.patr_shell.specs.Sent.{AppendsFront, PassesOn};
 
 use patr_io::{Failed, Sink};
 
@@ -11,6 +11,7 @@ fn write_whole<K: Sink>(sink: &mut K, text: &[u8]) -> Result<(), Failed>
     ensures ok { OnOk result (Appends (K.written sink.old) (K.written sink.new) text.now) }
     ensures err { OnErr result (AppendsFront (K.written sink.old) (K.written sink.new) text.now) }
     ensures cause { HasCause (K.faults sink.old) (K.faults sink.new) (is_err result) }
+    ensures flushed { K.flushed sink.new ≡ K.flushed sink.old }
 {
     let mut rest = text;
     while !rest.is_empty() {
@@ -25,8 +26,9 @@ pub fn send<K: Sink>(sink: &mut K, text: &[u8]) -> Result<(), Failed>
     ensures ok { OnOk result (Appends (K.written sink.old) (K.written sink.new) text.now) }
     ensures err { OnErr result (AppendsFront (K.written sink.old) (K.written sink.new) text.now) }
     ensures cause { HasCause (K.faults sink.old) (K.faults sink.new) (is_err result) }
-    ensures silent { length text.now ≡ 0 → K.flushed sink.new ≡ K.flushed sink.old }
-    ensures flushed { OnOk result (IsFlushed (K.written sink.old) (K.flushed sink.old) → IsFlushed (K.written sink.new) (K.flushed sink.new)) }
+    ensures silent { length text.now ≡ 0 → sink.new ≡ sink.old }
+    ensures flushed { PassesOn (is_err result) (K.written sink.old) (K.written sink.new)
+        (K.flushed sink.old) (K.flushed sink.new) }
 {
     if text.is_empty() {
         return Ok(());

@@ -1,15 +1,14 @@
 //! A session: the lines of an input are answered, each before more is read.
-ghost use Rattle.std.specs.Prelude.{◌==◌, position, ◌≡◌, ◌⊎◌, ◌≤◌, ℕ, List, [], ◌∷◌, ◌++◌, length, take, IfOk, IfSome, IfNone, OnOk, OnErr};
-ghost use Rattle.std.specs.Bool.{OnTrue, OnFalse};
-ghost use Rattle.std.specs.Io.KnownBytes.{Appends, Consumes, IsAtEnd};
-ghost use Rattle.patr_io.specs.Causes.{HasCause, IsFlushed};
+ghost use Rattle.std.specs.Prelude.{◌==◌, position, ◌≡◌, ◌≤◌, [], ◌∷◌, ◌++◌, length, take, IfOk, IfErr, IfSome, IfNone, OnOk, OnErr, IsErrOf, is_err};
+ghost use Rattle.std.specs.Bool.{OnTrue};
+ghost use Rattle.std.specs.Io.KnownBytes.{Appends, Keeps};
+ghost use Rattle.patr_io.specs.Causes.{HasCause};
 ghost use Rattle.patr_model.specs.Session.{whole_lines_of, without_cr};
 ghost use Rattle.patr_shell.specs.declared.session.AnswerFault.TheVariants.{Write, Memory as OutOfMemory};
 ghost use Rattle.patr_shell.specs.Spoken.{HasLimit};
-ghost use Rattle.patr_shell.specs.Answering.{HasNoFeed, last_piece, last_line, too_long_line, HasTold, HasAnswered, HasBegun, HasTakenQuit, is_write_fault, HasWrittenSession, HasBegunSession};
-ghost use Rattle.patr_shell.specs.declared.state.State.{State};
-ghost use Rattle.patr_shell.specs.Sent.{AppendsFront};
-ghost use Rattle.patr_shell.specs.Outcome.{is_definite, ending_of, ended_by_read, ended_by_write, IsSessionStatus, answer_status};
+ghost use Rattle.patr_shell.specs.Answering.{HasNoFeed, last_piece, last_line, too_long_line, HasTold, HasBegun, is_write_fault, HasWrittenSession, HasBegunSession};
+ghost use Rattle.patr_shell.specs.Sent.{AppendsFront, PassesOn};
+ghost use Rattle.patr_shell.specs.Outcome.{is_definite, ending_of, ended_by_read, ended_by_write, IsSessionStatus, answer_status, HasRunSession};
 
 use crate::answer::line_answer;
 use crate::sending::send;
@@ -127,11 +126,16 @@ fn answer_line<K: Sink, G: Gate>(
     gate: &G,
 ) -> Result<Next, AnswerFault>
     requires { HasLimit state.old }
-    ensures told { IfOk result (λ next. HasTold language.now state.old (without_cr line.now ∷ []) next state.new (K.written sink.old) (K.written sink.new)) }
-    ensures front { OnErr result (HasBegun language.now state.old (without_cr line.now ∷ []) (K.written sink.old) (K.written sink.new)) }
+    ensures told { IfOk result (λ next. HasTold language.now state.old
+        (without_cr line.now ∷ []) next state.new (K.written sink.old) (K.written sink.new)) }
+    ensures front { IfErr result (λ fault. HasBegun language.now state.old
+        (without_cr line.now ∷ []) fault (K.written sink.old) (K.written sink.new)) }
+    ensures memory { IsErrOf result AnswerFault.Memory
+        → Keeps (K.written sink.old) (K.written sink.new) }
     ensures limit { HasLimit state.new }
     ensures cause { HasCause (K.faults sink.old) (K.faults sink.new) (is_write_fault result) }
-    ensures flushed { OnOk result (IsFlushed (K.written sink.old) (K.flushed sink.old) → IsFlushed (K.written sink.new) (K.flushed sink.new)) }
+    ensures flushed { PassesOn (is_write_fault result) (K.written sink.old) (K.written sink.new)
+        (K.flushed sink.old) (K.flushed sink.new) }
 {
     let Some(reply) = line_answer(alloc, language, *state, trim(line), gate)? else {
         return Ok(Next::Ends);
@@ -155,12 +159,18 @@ fn take_piece<K: Sink, G: Gate>(
     requires limit { HasLimit state.old }
     requires free { HasNoFeed held.old.items }
     requires short { length held.old.items ≤ 4098 }
-    ensures told { IfOk result (λ next. HasTold language.now state.old (whole_lines_of (held.old.items ++ piece.now)) next state.new (K.written sink.old) (K.written sink.new)) }
-    ensures held { IfOk result (λ next. next ≡ Next.GoesOn → held.new.items ≡ take 4098 (last_piece (held.old.items ++ piece.now))) }
-    ensures front { OnErr result (HasBegun language.now state.old (whole_lines_of (held.old.items ++ piece.now)) (K.written sink.old) (K.written sink.new)) }
+    ensures told { IfOk result (λ next. HasTold language.now state.old
+        (whole_lines_of (held.old.items ++ piece.now)) next
+        state.new (K.written sink.old) (K.written sink.new)) }
+    ensures held { IfOk result (λ next. next ≡ Next.GoesOn
+        → held.new.items ≡ take 4098 (last_piece (held.old.items ++ piece.now))) }
+    ensures front { IfErr result (λ fault. HasBegun language.now state.old
+        (whole_lines_of (held.old.items ++ piece.now)) fault
+        (K.written sink.old) (K.written sink.new)) }
     ensures limit { HasLimit state.new }
     ensures cause { HasCause (K.faults sink.old) (K.faults sink.new) (is_write_fault result) }
-    ensures flushed { OnOk result (IsFlushed (K.written sink.old) (K.flushed sink.old) → IsFlushed (K.written sink.new) (K.flushed sink.new)) }
+    ensures flushed { PassesOn (is_write_fault result) (K.written sink.old) (K.written sink.new)
+        (K.flushed sink.old) (K.flushed sink.new) }
 {
     let mut rest = piece;
     'lines: while let Some((front, behind)) = cut_line(rest) {
@@ -186,10 +196,15 @@ fn answer_last<K: Sink, G: Gate>(
     gate: &G,
 ) -> Result<Next, AnswerFault>
     requires { HasLimit state.old }
-    ensures told { IfOk result (λ next. HasTold language.now state.old (last_line held.now) next state.new (K.written sink.old) (K.written sink.new)) }
-    ensures front { OnErr result (HasBegun language.now state.old (last_line held.now) (K.written sink.old) (K.written sink.new)) }
+    ensures told { IfOk result (λ next. HasTold language.now state.old (last_line held.now) next
+        state.new (K.written sink.old) (K.written sink.new)) }
+    ensures front { IfErr result (λ fault. HasBegun language.now state.old (last_line held.now)
+        fault (K.written sink.old) (K.written sink.new)) }
+    ensures memory { IsErrOf result AnswerFault.Memory
+        → Keeps (K.written sink.old) (K.written sink.new) }
     ensures cause { HasCause (K.faults sink.old) (K.faults sink.new) (is_write_fault result) }
-    ensures flushed { OnOk result (IsFlushed (K.written sink.old) (K.flushed sink.old) → IsFlushed (K.written sink.new) (K.flushed sink.new)) }
+    ensures flushed { PassesOn (is_write_fault result) (K.written sink.old) (K.written sink.new)
+        (K.flushed sink.old) (K.flushed sink.new) }
 {
     if trim(held).is_empty() {
         return Ok(Next::GoesOn);
@@ -198,14 +213,15 @@ fn answer_last<K: Sink, G: Gate>(
 }
 
 /// Writes the line that refuses a longer input.
-fn refuse_rest<K: Sink>(sink: &mut K) -> Result<(), AnswerFault>
+fn refuse_rest<K: Sink>(sink: &mut K) -> Result<(), Failed>
     ensures text { OnOk result (Appends (K.written sink.old) (K.written sink.new) too_long_line) }
-    ensures front { OnErr result (AppendsFront (K.written sink.old) (K.written sink.new) too_long_line) }
-    ensures cause { HasCause (K.faults sink.old) (K.faults sink.new) (is_write_fault result) }
-    ensures flushed { OnOk result (IsFlushed (K.written sink.old) (K.flushed sink.old) → IsFlushed (K.written sink.new) (K.flushed sink.new)) }
+    ensures front { OnErr result
+        (AppendsFront (K.written sink.old) (K.written sink.new) too_long_line) }
+    ensures cause { HasCause (K.faults sink.old) (K.faults sink.new) (is_err result) }
+    ensures flushed { PassesOn (is_err result) (K.written sink.old) (K.written sink.new)
+        (K.flushed sink.old) (K.flushed sink.new) }
 {
-    send(sink, INPUT_TOO_LONG)?;
-    Ok(())
+    send(sink, INPUT_TOO_LONG)
 }
 
 /// Answers the lines of an input on a sink, each before more is read, up to the end or to a `:quit`, and holds no more
@@ -220,16 +236,17 @@ pub fn run_session<S: Source, K: Sink, G: Gate>(
 ) -> Status
     requires { HasLimit first }
     ensures whole { OnTrue (is_definite result) (IfSome (S.left source.old) (λ input.
-        HasWrittenSession language.now first input (ending_of result) (K.written sink.old) (K.written sink.new))) }
-    ensures front { IfSome (S.left source.old) (λ input. HasBegunSession language.now first input (K.written sink.old) (K.written sink.new)) }
-    ensures end { result ≡ Status.Done → IsAtEnd (S.left source.new) ⊎ HasTakenQuit (S.left source.old) (S.left source.new) }
+        HasWrittenSession language.now first input (ending_of result)
+        (K.written sink.old) (K.written sink.new))) }
+    ensures front { IfSome (S.left source.old) (λ input.
+        HasBegunSession language.now first input (K.written sink.old) (K.written sink.new)) }
+    ensures end { HasRunSession language.now first result (S.left source.old) (S.left source.new)
+        (K.written sink.old) (K.written sink.new) }
+    ensures flushed { PassesOn (ended_by_write result) (K.written sink.old) (K.written sink.new)
+        (K.flushed sink.old) (K.flushed sink.new) }
     ensures status { IsSessionStatus result }
-    // After a read that failed, each line whose end was taken is answered, and nothing else.
-    ensures read { result ≡ Status.ReadFault → (taken : List ℕ) × Consumes (S.left source.old) (S.left source.new) taken × (length taken ≤ 16777216)
-        × (end : State) × HasAnswered language.now first (whole_lines_of taken) end (K.written sink.old) (K.written sink.new) }
     ensures source_cause { HasCause (S.faults source.old) (S.faults source.new) (ended_by_read result) }
     ensures sink_cause { HasCause (K.faults sink.old) (K.faults sink.new) (ended_by_write result) }
-    ensures flushed { OnTrue (is_definite result) (IsFlushed (K.written sink.old) (K.flushed sink.old) → IsFlushed (K.written sink.new) (K.flushed sink.new)) }
 {
     let mut state = first;
     let mut held = Vec::new(alloc);
@@ -255,7 +272,7 @@ pub fn run_session<S: Source, K: Sink, G: Gate>(
         if within < count {
             match refuse_rest(sink) {
                 Ok(()) => return Status::InputTooLong,
-                Err(fault) => return Status::from(fault),
+                Err(_) => return Status::WriteFault,
             }
         }
         taken += count;

@@ -9,4 +9,5 @@ loop-rest-preserved g c =
     record {
       sent = sent_more (written c.args.sink.now) (written c.loop-rest.sink) (written c.write.new.self) c.args.text.now c.loop-rest.rest.now _ c.in_ok-count.count c.loop-rest.invariant.sent c.in_ok-count.ensures.bytes (grind (arith, common_steps));
       well = c.in_ok-count.ensures.cause.kept ∙ c.loop-rest.invariant.well;
+      still = c.write.ensures.flushed ∙ c.loop-rest.invariant.still;
     }

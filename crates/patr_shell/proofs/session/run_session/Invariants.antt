@@ -1,6 +1,6 @@
-use Rattle.std.proofs.Common.{◌≡◌, ◌≤◌, ◌-◌, ℕ, List, length}
+use Rattle.std.proofs.Common.{◌≡◌, ◌≤◌, ◌-◌, ℕ, List, length, false}
 use Rattle.std.specs.Io.KnownBytes.{Consumes}
-use Rattle.patr_io.specs.Causes.{IsFlushed}
+use Rattle.patr_shell.specs.Sent.{PassesOn}
 use Rattle.patr_shell.specs.Spoken.{HasLimit}
 use Rattle.patr_shell.proofs.SessionStanding.{Stands}
 use Rattle.patr_shell.proofs.session.run_session.Given as goal
@@ -17,7 +17,7 @@ invariant-reads g l =
       within : l.taken ≤ 16777216;
       stands : Stands l.language l.fn.first l.state bytes l.held.items (written l.fn.sink) (written l.sink);
       limit : HasLimit l.state;
-      flushed : IsFlushed (written l.fn.sink) (g.K.Sink.flushed l.fn.sink) → IsFlushed (written l.sink) (g.K.Sink.flushed l.sink);
+      flushed : PassesOn false (written l.fn.sink) (written l.sink) (g.K.Sink.flushed l.fn.sink) (g.K.Sink.flushed l.sink);
       source_well : g.S.Source.faults l.source ≡ g.S.Source.faults l.fn.source;
       sink_well : g.K.Sink.faults l.sink ≡ g.K.Sink.faults l.fn.sink;
     }

@@ -1,5 +1,5 @@
-use Rattle.std.proofs.Common.{◌≡◌, ◌++◌, length}
-use Rattle.patr_io.specs.Causes.{IsFlushed}
+use Rattle.std.proofs.Common.{◌≡◌, ◌++◌, length, false}
+use Rattle.patr_shell.specs.Sent.{PassesOn}
 use Rattle.patr_shell.specs.Spoken.{HasLimit}
 use Rattle.patr_shell.proofs.InPieces.{InPiece}
 use Rattle.patr_shell.proofs.session.take_piece.Given as goal
@@ -11,7 +11,7 @@ invariant-lines g l =
     record {
       stands : InPiece l.language l.fn.state l.state (l.fn.held.items ++ l.piece) l.held.items l.rest (written l.fn.sink) (written l.sink);
       limit : HasLimit l.state;
-      flushed : IsFlushed (written l.fn.sink) (g.K.Sink.flushed l.fn.sink) → IsFlushed (written l.sink) (g.K.Sink.flushed l.sink);
+      flushed : PassesOn false (written l.fn.sink) (written l.sink) (g.K.Sink.flushed l.fn.sink) (g.K.Sink.flushed l.sink);
       well : g.K.Sink.faults l.sink ≡ g.K.Sink.faults l.fn.sink;
     }
 
