@@ -29,7 +29,7 @@ extends_more u v w e f = record {
 pub new_block : (v w : Shown) (nodes : List (List Feature)) (b : ℕ) → IsShown v → w ≡ with_block v nodes → b ≡ length v.sizes → HasBlock w b nodes
 new_block v w nodes b s is at = record { before = v; shown = s; number = sym at; extends = subst (Extends (with_block v nodes)) (sym is) (extends_self (with_block v nodes)) }
 
-further : (v w : Shown) (nodes : List (List Feature)) → w ≡ with_block v nodes → Extends v w
+pub further : (v w : Shown) (nodes : List (List Feature)) → w ≡ with_block v nodes → Extends v w
 further v w nodes is = subst (Extends v) (sym is) (record { sizes = (length nodes ∷ [], refl); structure = (map (arcs_from v (length v.sizes)) nodes, refl) })
 
 -- it stays where more stands behind it

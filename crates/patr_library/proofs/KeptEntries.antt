@@ -67,7 +67,7 @@ entry_dealt v w e k x nodes root to b at n a old new s least is block slot own s
 
 -- ---- what stays where more stands behind it
 
-value_still : (v w : Shown) → Extends v w → (x : its.Value) → ValueIsHeld v x → ValueIsHeld w x × (value_of w x ≡ value_of v x)
+pub value_still : (v w : Shown) → Extends v w → (x : its.Value) → ValueIsHeld v x → ValueIsHeld w x × (value_of w x ≡ value_of v x)
 value_still v w e (value.Atom c) h = (tt, refl)
 value_still v w e (value.Node at) h = (still_held v w e at.block at.offset h, ap Node (same_number_held v w e at.block at.offset h))
 

@@ -1,4 +1,4 @@
-ghost use Rattle.std.specs.Prelude.{◌<◌, ◌≤◌, length, IfOk};
+ghost use Rattle.std.specs.Prelude.{◌≡◌, IfOk};
 ghost use Rattle.patr_arena.specs.Arenas.{shown_of};
 ghost use Rattle.patr_arena.specs.Shown.{ValueIsHeld};
 ghost use Rattle.patr_arena.specs.declared.value.Ref.TheVariants as ref;
@@ -69,7 +69,10 @@ const GRAMMAR: &[u8] = b"Rule S -> NP VP: <S head> = <VP head>. Rule NP -> VP: <
 const LEXICON: &[u8] =
     b"\\w dog\n\\c NP\n\\g hound\n\\w runs\n\\c VP\n\\f <cat> = NP\n\\w runs\n\\c VP\n";
 
-const fn arc(attribute: Id, to: Ref) -> Feature {
+/// An arc.
+const fn arc(attribute: Id, to: Ref) -> Feature
+    ensures { result ≡ record { attribute = attribute; to = to } }
+{
     Feature { attribute, to }
 }
 
@@ -136,6 +139,26 @@ fn first_entry_is(alloc: Global, library: &Library, wanted: Least) -> Result<boo
     is_same(alloc, library.arena(), item.root, wanted)
 }
 
+/// Whether the two least values are those that are wanted.
+fn has_wanted(alloc: Global, library: &Library) -> Result<bool, Memory> {
+    let rule = wanted_rule(alloc)?;
+    let entry = wanted_entry(alloc)?;
+    Ok(first_rule_is(alloc, library, rule)? && first_entry_is(alloc, library, entry)?)
+}
+
+/// Whether the items are found by their mothers and words.
+fn is_found(library: &Library) -> bool {
+    library.rules_of(S) == [0].as_slice()
+        && library.rules_of(NP).is_empty()
+        && library.items_of(DOG) == [0].as_slice()
+        && library.items_of(RUNS) == [1].as_slice()
+}
+
+/// How many items of rules and of entries there are.
+fn counts(library: &Library) -> (usize, usize) {
+    (library.rules().len(), library.entries().len())
+}
+
 #[test]
 fn items_have_solutions(rt: HostRuntime) -> Result<(), Fail> {
     let alloc = rt.alloc();
@@ -143,14 +166,9 @@ fn items_have_solutions(rt: HostRuntime) -> Result<(), Fail> {
         assert!(rt; false);
         return Ok(());
     };
-    assert_eq!(rt; library.rules().len(), 1);
-    assert_eq!(rt; library.entries().len(), 2);
-    assert_eq!(rt; library.rules_of(S), [0].as_slice());
-    assert_eq!(rt; library.rules_of(NP).len(), 0);
-    assert_eq!(rt; library.items_of(DOG), [0].as_slice());
-    assert_eq!(rt; library.items_of(RUNS), [1].as_slice());
-    assert!(rt; first_rule_is(alloc, &library, wanted_rule(alloc)?)?);
-    assert!(rt; first_entry_is(alloc, &library, wanted_entry(alloc)?)?);
+    assert_eq!(rt; counts(&library), (1, 2));
+    assert!(rt; is_found(&library));
+    assert!(rt; has_wanted(alloc, &library)?);
     Ok(())
 }
 
