@@ -13,9 +13,11 @@ use std::sync::ledger::{Blank, Ledger};
 use std::test::Fail;
 
 /// A grammar with agreement, and its lexicon.
-const GRAMMAR: &[u8] = b"Rule S -> NP VP <NP agr> = <VP agr> <S subj> = <NP> <S pred> = <VP>\nRule NP -> Det N <NP agr> = <N agr> <Det agr> = <N agr>\nRule VP -> V <VP agr> = <V agr>\n";
+const GRAMMAR: &[u8] =
+    b"Rule S -> NP VP <NP agr> = <VP agr> <S subj> = <NP> <S pred> = <VP>\nRule NP -> Det N <NP agr> = <N agr> <Det agr> = <N agr>\nRule VP -> V <VP agr> = <V agr>\n";
 
-const LEXICON: &[u8] = b"\\w the\n\\c Det\n\\w dog\n\\c N\n\\f <agr num> = sg\n\\w dogs\n\\c N\n\\f <agr num> = pl\n\\w barks\n\\c V\n\\f <agr num> = sg\n";
+const LEXICON: &[u8] =
+    b"\\w the\n\\c Det\n\\w dog\n\\c N\n\\f <agr num> = sg\n\\w dogs\n\\c N\n\\f <agr num> = pl\n\\w barks\n\\c V\n\\f <agr num> = sg\n";
 
 /// The symbols and the library of the grammar.
 #[derive(Drop)]
@@ -128,12 +130,7 @@ fn outcome<L: Ledger>(
                 return Ok(None);
             }
             let analyses = parsed.analyses().len();
-            Ok(Some(Ok((
-                edges,
-                analyses,
-                parsed.decided(),
-                gate.rounds.get(),
-            ))))
+            Ok(Some(Ok((edges, analyses, parsed.decided(), gate.rounds.get()))))
         }
         Err(Fault::Refused(cause)) => Ok(Some(Err(cause))),
         Err(Fault::Memory) => Err(AllocError),

@@ -37,7 +37,9 @@ pub fn unify_at<N: Nodes, L: Ledger>(
     ensures none { IfOk result (λ found. IfNone found ((G : Structure) (g : _) → TakesBoth (N.shown nodes.now).structure (Node (number_of (N.shown nodes.now) left.block left.offset)) (ids path.now) (N.shown nodes.now).structure (value_of (N.shown nodes.now) right) G g → ⊥)) }
     ensures steps { IfOk result (λ _. steps.new ≡ steps.old + 1) }
     ensures kept { KeepsRoom scratch.old scratch.new }
-    ensures room { OnOk result (HasDecisionRoom (N.shown nodes.now) scratch.new (number_of (N.shown nodes.now) left.block left.offset) (value_of (N.shown nodes.now) right)) }
+    ensures room { OnOk result (HasDecisionRoom (N.shown nodes.now) scratch.new
+        (number_of (N.shown nodes.now) left.block left.offset)
+        (value_of (N.shown nodes.now) right)) }
 {
     reserve_for(alloc, nodes, left, right, scratch)?;
     match decide(nodes, left, path, right, scratch, steps) {
