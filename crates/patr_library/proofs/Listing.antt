@@ -1,7 +1,6 @@
 -- The lists by key.
 use Rattle.std.proofs.Common.{◌≡◌, ℕ, zero, suc, ◌+◌, ◌<◌, Bool, true, false, cond, nat_eq, List, [], ◌∷◌, ◌++◌, length, take, get_or, set, refl, sym, ap, ◌∙◌, arith, eq-eqb, eqb-true, zero-add, append-nil, Vec, Global}
 use Rattle.std.proofs.lemmas.List.{get_or-set_same, get_or-set_other, get_or-map, map-set, length-take-le, take_more}
-use Rattle.std.proofs.Math.Seq.{map-set_same}
 use Rattle.patr_model.specs.Numbered.{places}
 use Rattle.patr_model.proofs.Selected.{places_append}
 use Rattle.patr_text.specs.declared.symbols.Id.{Id}

@@ -1,5 +1,5 @@
 -- The least value of two lists of equations, from one of each.
-use Rattle.std.proofs.Common.{◌≡◌, ℕ, zero, suc, ◌+◌, List, [], ◌∷◌, ◌++◌, length, map, take, drop, Some, slice_get, refl, sym, ap, ◌∙◌, arith, subst}
+use Rattle.std.proofs.Common.{◌≡◌, ℕ, suc, ◌+◌, List, [], ◌∷◌, ◌++◌, length, map, take, drop, Some, slice_get, refl, sym, ap, ◌∙◌, arith, subst}
 use Rattle.std.specs.List.{AllByRecursion}
 use Rattle.patr_model.specs.Structure.{Value, Node, Structure, arc, IsValue, IsStructure}
 use Rattle.patr_model.specs.Subsumption.{MapsInto, TakesBoth, IsUnifier}

@@ -1,4 +1,4 @@
-use Rattle.std.proofs.Common.{◌≡◌, ◌∙◌, List, ap, sym, length, drop, arith, rules, refl}
+use Rattle.std.proofs.Common.{◌∙◌, List, ap, sym, length, arith}
 use Rattle.std.proofs.lemmas.List.{drop_all}
 use Rattle.patr_arena.specs.Arenas.{shown_of}
 use Rattle.patr_arena.specs.Shown.{arcs_from}

@@ -1,4 +1,4 @@
-use Rattle.std.proofs.Common.{◌≡◌, ◌++◌, List, map, sym, subst, rules}
+use Rattle.std.proofs.Common.{◌++◌, sym, subst, rules}
 use Rattle.patr_model.specs.Variants.{AreWithin}
 use Rattle.patr_arena.specs.declared.value.Ref.TheVariants as ref
 use Rattle.patr_expand.specs.Seen.{equation_at, equations_at}

@@ -1,4 +1,4 @@
-use Rattle.std.proofs.Common.{[], sym, subst, rules}
+use Rattle.std.proofs.Common.{[], subst, rules}
 use Rattle.patr_model.specs.Structure.{Value, Structure, Node}
 use Rattle.patr_model.specs.Subsumption.{Same, TakesBoth}
 use Rattle.patr_arena.specs.Arenas.{shown_of}
