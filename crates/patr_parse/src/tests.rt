@@ -1,6 +1,8 @@
 ghost use Rattle.std.specs.Prelude.{◌≡◌, ◌<◌, ◌≤◌};
+ghost use Rattle.patr_arena.specs.Blocks.{Extends};
 
 use super::*;
+use patr_arena::Nodes;
 use patr_grammar::read_grammar;
 use patr_lexicon::read_lexicon;
 use patr_library::Library;
@@ -97,6 +99,19 @@ struct Sentence<'a> {
 /// How many edges, analyses, decided pairs and rounds it takes, or why the sentence is refused.
 type Outcome = Result<(u32, usize, u64, u64), ParseCause>;
 
+/// Whether the root of the library's first rule is a node of the sentence's too, at its place and with as many arcs.
+fn shows_first_rule(parsed: &Parsed<'_>, library: &Library) -> bool
+    requires { Extends library.now.shown parsed.now.shown }
+{
+    let Some(item) = library.rules().first() else {
+        return false;
+    };
+    let root = item.root;
+    let view = parsed.view();
+    let arena = library.arena();
+    view.number(root) == arena.number(root) && view.arcs(root).len() == arena.arcs(root).len()
+}
+
 /// What becomes of a sentence, where the gate is told of each edge once.
 fn outcome<L: Ledger>(
     alloc: Global,
@@ -126,7 +141,7 @@ fn outcome<L: Ledger>(
     ) {
         Ok(parsed) => {
             let edges = parsed.chart().len();
-            if !gate.saw_all(edges) {
+            if !gate.saw_all(edges) || !shows_first_rule(&parsed, &language.library) {
                 return Ok(None);
             }
             let analyses = parsed.analyses().len();
