@@ -12,7 +12,7 @@ mod rounds;
 mod sentence;
 mod task;
 
-pub use parse::{ParseCause, parse_alone};
+pub use parse::{ParseCause, parse_alone, parse_words};
 pub use parsed::Parsed;
 pub use patr_pool::{Gate, OpenGate};
 pub use patr_text::{Fault, Memory};

@@ -1,5 +1,5 @@
 //! Parsing a sentence.
-ghost use Rattle.std.specs.Prelude.{◌≡◌, ◌+◌, ◌<◌, ◌≤◌, length, IfOk, IfErr};
+ghost use Rattle.std.specs.Prelude.{◌≡◌, ◌+◌, ◌<◌, ◌≤◌, length, map, IfOk, IfErr};
 ghost use Rattle.patr_arena.specs.Blocks.{Extends};
 ghost use Rattle.patr_model.specs.Session.{words_of};
 ghost use Rattle.patr_parse.specs.Sentences.{IsParsed, IsRefusedFor};
@@ -8,7 +8,7 @@ use crate::analyses::analyses_of;
 use crate::closing::close;
 use crate::join::Work;
 use crate::parsed::Parsed;
-use crate::sentence::numbers_of;
+use crate::sentence::{numbers_of, words_of};
 use patr_arena::{SentenceArena, View};
 use patr_library::Library;
 use patr_pool::Gate;
@@ -16,6 +16,7 @@ use patr_scratch::Scratch;
 use patr_text::{Fault, Symbols};
 use patr_unify::Steps;
 use std::alloc::Global;
+use std::mem;
 use std::sync::ledger::Ledger;
 use thiserror::Error;
 
@@ -34,12 +35,7 @@ pub enum ParseCause {
 }
 
 /// The closed chart of a sentence and its analyses, found by one worker. `limit` is the most edges that the chart may
-/// have.
-///
-/// The nodes that it shows are those of the library's arena, which stay where they are, and behind them the sentence's
-/// own.
-///
-/// `Fault::Refused` gives the first cause for which the sentence is refused, and `Fault::Memory` says that memory ran out.
+/// have. The same as `parse_words` of its words, with marks of its own.
 pub fn parse_alone<'a, G: Gate, L: Ledger>(
     alloc: Global,
     library: &'a Library,
@@ -51,12 +47,54 @@ pub fn parse_alone<'a, G: Gate, L: Ledger>(
 ) -> Result<Parsed<'a>, Fault<ParseCause>>
     requires words { 0 < length (words_of sentence.now) }
     requires limit { (1 ≤ limit) × (limit ≤ 200000) }
-    ensures parsed { IfOk result (λ p. IsParsed library.now symbols.now (words_of sentence.now) limit p) }
+    ensures parsed { IfOk result (λ p. IsParsed library.now symbols.now
+        (words_of sentence.now) limit p) }
     ensures steps { IfOk result (λ p. steps.new ≡ steps.old + p.decided) }
-    ensures refused { IfErr result (λ fault. IsRefusedFor library.now symbols.now (words_of sentence.now) limit fault) }
+    ensures refused { IfErr result (λ fault. IsRefusedFor library.now symbols.now
+        (words_of sentence.now) limit fault) }
     ensures base { IfOk result (λ p. Extends library.now.shown p.shown) }
 {
-    let numbers = match numbers_of(alloc, library, symbols, sentence) {
+    let words = words_of(alloc, sentence)?;
+    let mut scratch = Scratch::new(alloc);
+    parse_words(
+        alloc,
+        library,
+        symbols,
+        &words,
+        limit,
+        gate,
+        &mut scratch,
+        steps,
+    )
+}
+
+/// The closed chart of these words and its analyses, found by one worker. `limit` is the most edges that the chart may
+/// have. Unifications mark nodes in `scratch`, whose room one sentence leaves to the next.
+///
+/// The nodes that it shows are those of the library's arena, which stay where they are, and behind them the sentence's
+/// own.
+///
+/// `Fault::Refused` gives the first cause for which the sentence is refused, and `Fault::Memory` says that memory ran out.
+pub fn parse_words<'a, G: Gate, L: Ledger>(
+    alloc: Global,
+    library: &'a Library,
+    symbols: &Symbols,
+    words: &[&str],
+    limit: u32,
+    gate: &G,
+    scratch: &mut Scratch,
+    steps: &mut Steps<L>,
+) -> Result<Parsed<'a>, Fault<ParseCause>>
+    requires words { 0 < length words.now }
+    requires limit { (1 ≤ limit) × (limit ≤ 200000) }
+    ensures parsed { IfOk result (λ p. IsParsed library.now symbols.now
+        (map (λ w. w.now) words.now) limit p) }
+    ensures steps { IfOk result (λ p. steps.new ≡ steps.old + p.decided) }
+    ensures refused { IfErr result (λ fault. IsRefusedFor library.now symbols.now
+        (map (λ w. w.now) words.now) limit fault) }
+    ensures base { IfOk result (λ p. Extends library.now.shown p.shown) }
+{
+    let numbers = match numbers_of(alloc, library, symbols, words) {
         Ok(numbers) => numbers,
         Err(fault) => return Err(fault),
     };
@@ -64,17 +102,23 @@ pub fn parse_alone<'a, G: Gate, L: Ledger>(
     let _rules = library.rules();
     let mut work = Work {
         arena: SentenceArena::over(alloc, library.arena()),
-        scratch: Scratch::new(alloc),
+        scratch: mem::replace(scratch, Scratch::new(alloc)),
     };
-    let Some(closed) = close(alloc, library, &numbers, limit, &mut work, gate, steps)? else {
+    let closed = close(alloc, library, &numbers, limit, &mut work, gate, steps);
+    let Work {
+        arena,
+        scratch: used,
+    } = work;
+    *scratch = used;
+    let Some(closed) = closed? else {
         return Err(Fault::Refused(ParseCause::TooManyEdges { limit }));
     };
-    let view = View::of(&work.arena);
+    let view = View::of(&arena);
     let analyses = analyses_of(alloc, library, &view, &numbers, &closed.chart)?;
     Ok(Parsed {
         chart: closed.chart,
         analyses,
-        arena: work.arena,
+        arena,
         decided: closed.decided,
     })
 }

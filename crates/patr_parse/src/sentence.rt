@@ -81,17 +81,18 @@ pub(crate) fn numbers_of(
     alloc: Global,
     library: &Library,
     symbols: &Symbols,
-    sentence: &str,
+    words: &[&str],
 ) -> Result<Vec<Id>, Fault<ParseCause>>
-    ensures numbers { IfOk result (λ numbers. AreKnown library.now symbols.now (words_of sentence.now) (ids numbers.items)) }
-    ensures refused { (limit : ℕ) → IfErr result (λ fault. IsRefusedFor library.now symbols.now (words_of sentence.now) limit fault) }
+    ensures numbers { IfOk result (λ numbers. AreKnown library.now symbols.now
+        (map (λ w. w.now) words.now) (ids numbers.items)) }
+    ensures refused { (limit : ℕ) → IfErr result (λ fault. IsRefusedFor library.now symbols.now
+        (map (λ w. w.now) words.now) limit fault) }
 {
-    let words = words_of(alloc, sentence)?;
     if words.len() > 256 {
         let count = words.len() as u64;
         return Err(Fault::Refused(ParseCause::TooManyWords { count }));
     }
     // no two numbers have one text
     let _count = symbols.len();
-    known_words(alloc, library, symbols, &words)
+    known_words(alloc, library, symbols, words)
 }

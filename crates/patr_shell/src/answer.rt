@@ -9,8 +9,9 @@ ghost use Rattle.patr_shell.specs.Answering.{IsAnswer, IsAnswerToCommand, IsAnsw
 use crate::command::{Command, command_of, on_off};
 use crate::state::State;
 use crate::{Gate, Language, Memory};
-use patr_parse::{Fault, parse_alone, words_of};
+use patr_parse::{Fault, parse_words, words_of};
 use patr_reply::{refusal, reply};
+use patr_scratch::Scratch;
 use patr_unify::Steps;
 use std::alloc::{AllocError, Global};
 use std::marker::Brand;
@@ -23,10 +24,9 @@ pub struct Reply {
     pub state: State,
 }
 
-/// A sentence as it is written, and its words.
+/// The words of a sentence.
 #[derive(Clone, Copy)]
 struct Sentence<'a> {
-    text: &'a str,
     words: &'a [&'a str],
 }
 
@@ -37,26 +37,29 @@ fn sentence_reply<L: Ledger, G: Gate>(
     state: State,
     sentence: Sentence<'_>,
     gate: &G,
+    scratch: &mut Scratch,
     blank: Blank,
 ) -> Result<String, Memory>
     requires name { blank.name ≡ L.name }
     requires parts { blank.parts ≡ L.parts }
     requires some_parts { 0 < blank.parts }
-    requires words { map (λ w. w.now) sentence.words.now ≡ words_of sentence.text.now }
     requires some { 0 < length sentence.words.now }
     requires limit { HasLimit state }
-    ensures { (N : Numbering) → AgreesWith N language.now.texts → IfOk result (λ text. IsSentenceReply solved (grounds N language.now) (state_seen state) (words_of sentence.entry.text.now) (string_bytes text)) }
+    ensures { (N : Numbering) → AgreesWith N language.now.texts → IfOk result (λ text.
+        IsSentenceReply solved (grounds N language.now) (state_seen state)
+        (map (λ w. w.now) sentence.entry.words.now) (string_bytes text)) }
 {
     let symbols = language.symbols();
     let library = language.library();
     let mut steps = Steps::<L>::new(blank);
-    match parse_alone(
+    match parse_words(
         alloc,
         library,
         symbols,
-        sentence.text,
+        sentence.words,
         state.limit,
         gate,
+        scratch,
         &mut steps,
     ) {
         Ok(parsed) => {
@@ -124,6 +127,7 @@ fn text_answer<G: Gate>(
     state: State,
     line: &str,
     gate: &G,
+    scratch: &mut Scratch,
 ) -> Result<Option<Reply>, Memory>
     requires limit { HasLimit state }
     ensures answer { IfOk result (λ answer. IsAnswerToWords language.now state (words_of line.now) answer) }
@@ -135,12 +139,11 @@ fn text_answer<G: Gate>(
         return Ok(Some(Reply { text, state }));
     }
     if !words[0].starts_with(':') {
-        let sentence = Sentence {
-            text: line,
-            words: &words,
-        };
+        let sentence = Sentence { words: &words };
         let blank = Blank::new(1);
-        let text = sentence_reply::<Brand, G>(alloc, language, state, sentence, gate, blank)?;
+        let text = sentence_reply::<Brand, G>(
+            alloc, language, state, sentence, gate, scratch, blank,
+        )?;
         return Ok(Some(Reply { text, state }));
     }
     match command_of(&words) {
@@ -153,13 +156,15 @@ fn text_answer<G: Gate>(
 }
 
 /// What a line without its end comes to, by the first that fits: a reply and the state behind it, or none where it
-/// ends the session. The reply to a line of white space is empty. Fails for want of memory alone.
+/// ends the session. The reply to a line of white space is empty. Fails for want of memory alone. Unifications mark
+/// nodes in `scratch`.
 pub fn line_answer<G: Gate>(
     alloc: Global,
     language: &Language,
     state: State,
     line: &[u8],
     gate: &G,
+    scratch: &mut Scratch,
 ) -> Result<Option<Reply>, Memory>
     requires limit { HasLimit state }
     ensures answer { IfOk result (λ answer. IsAnswer language.now state line.now answer) }
@@ -173,5 +178,5 @@ pub fn line_answer<G: Gate>(
         let text = String::from_str(alloc, "error: line is not UTF-8\n")?;
         return Ok(Some(Reply { text, state }));
     };
-    text_answer(alloc, language, state, text, gate)
+    text_answer(alloc, language, state, text, gate, scratch)
 }

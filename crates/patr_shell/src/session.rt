@@ -15,6 +15,7 @@ use crate::sending::send;
 use crate::state::State;
 use crate::{Gate, Language, Memory, Status};
 use patr_io::{Failed, Sink, Source};
+use patr_scratch::Scratch;
 use std::alloc::{AllocError, AllocFailed, Global};
 
 const LINE_FEED: u8 = b'\n';
@@ -124,6 +125,7 @@ fn answer_line<K: Sink, G: Gate>(
     sink: &mut K,
     line: &[u8],
     gate: &G,
+    scratch: &mut Scratch,
 ) -> Result<Next, AnswerFault>
     requires { HasLimit state.old }
     ensures told { IfOk result (λ next. HasTold language.now state.old
@@ -137,7 +139,7 @@ fn answer_line<K: Sink, G: Gate>(
     ensures flushed { PassesOn (is_write_fault result) (K.written sink.old) (K.written sink.new)
         (K.flushed sink.old) (K.flushed sink.new) }
 {
-    let Some(reply) = line_answer(alloc, language, *state, trim(line), gate)? else {
+    let Some(reply) = line_answer(alloc, language, *state, trim(line), gate, scratch)? else {
         return Ok(Next::Ends);
     };
     send(sink, reply.text.as_bytes())?;
@@ -155,6 +157,7 @@ fn take_piece<K: Sink, G: Gate>(
     held: &mut Vec<u8>,
     piece: &[u8],
     gate: &G,
+    scratch: &mut Scratch,
 ) -> Result<Next, AnswerFault>
     requires limit { HasLimit state.old }
     requires free { HasNoFeed held.old.items }
@@ -175,7 +178,7 @@ fn take_piece<K: Sink, G: Gate>(
     let mut rest = piece;
     'lines: while let Some((front, behind)) = cut_line(rest) {
         keep(held, front)?;
-        match answer_line(alloc, language, state, sink, held, gate)? {
+        match answer_line(alloc, language, state, sink, held, gate, scratch)? {
             Next::GoesOn => {}
             Next::Ends => return Ok(Next::Ends),
         }
@@ -194,6 +197,7 @@ fn answer_last<K: Sink, G: Gate>(
     sink: &mut K,
     held: &[u8],
     gate: &G,
+    scratch: &mut Scratch,
 ) -> Result<Next, AnswerFault>
     requires { HasLimit state.old }
     ensures told { IfOk result (λ next. HasTold language.now state.old (last_line held.now) next
@@ -209,7 +213,7 @@ fn answer_last<K: Sink, G: Gate>(
     if trim(held).is_empty() {
         return Ok(Next::GoesOn);
     }
-    answer_line(alloc, language, state, sink, held, gate)
+    answer_line(alloc, language, state, sink, held, gate, scratch)
 }
 
 /// Writes the line that refuses a longer input.
@@ -249,6 +253,7 @@ pub fn run_session<S: Source, K: Sink, G: Gate>(
     ensures sink_cause { HasCause (K.faults sink.old) (K.faults sink.new) (ended_by_write result) }
 {
     let mut state = first;
+    let mut scratch = Scratch::new(alloc);
     let mut held = Vec::new(alloc);
     let mut piece = [0u8; PIECE];
     let mut taken = 0usize;
@@ -257,14 +262,23 @@ pub fn run_session<S: Source, K: Sink, G: Gate>(
             return Status::ReadFault;
         };
         if count == 0 {
-            match answer_last(alloc, language, &mut state, sink, &held, gate) {
+            match answer_last(alloc, language, &mut state, sink, &held, gate, &mut scratch) {
                 Ok(_) => return Status::Done,
                 Err(fault) => return Status::from(fault),
             }
         }
         let within = count.min(MAX_INPUT - taken);
         let part = &piece[..within];
-        match take_piece(alloc, language, &mut state, sink, &mut held, part, gate) {
+        match take_piece(
+            alloc,
+            language,
+            &mut state,
+            sink,
+            &mut held,
+            part,
+            gate,
+            &mut scratch,
+        ) {
             Ok(Next::GoesOn) => {}
             Ok(Next::Ends) => return Status::Done,
             Err(fault) => return Status::from(fault),

@@ -3,9 +3,10 @@ use Rattle.std.specs.Bool.{Decides}
 use Rattle.std.specs.String.{string_bytes}
 use Rattle.std.proofs.lemmas.Result.{IfOk-weaker}
 use Rattle.std.proofs.lemmas.Str.Pattern.{starts_char}
-use Rattle.patr_model.specs.Session.{words_of}
+use Rattle.patr_model.specs.Solved.{solved}
+use Rattle.patr_model.specs.Session.{IsSentenceReply, words_of}
 use Rattle.patr_model.specs.Notations.{lines_with_commands}
-use Rattle.patr_shell.specs.Spoken.{command_seen}
+use Rattle.patr_shell.specs.Spoken.{command_seen, grounds, state_seen}
 use Rattle.patr_shell.specs.Answering.{IsAnswerToCommand, IsAnswerToWords}
 use Rattle.patr_shell.proofs.LineReplies.{no_words, sentence_answer, bad_answer, command_answers, first_word, empty_list}
 use Rattle.patr_shell.proofs.answer.text_answer.Goals as goal
@@ -18,10 +19,12 @@ returns-then-is_empty-clause-answer g c =
 
 pub returns-then-not-starts_with-clause-answer : goal.returns-then-not-starts_with-clause-answer
 returns-then-not-starts_with-clause-answer g c =
+    let are : map (λ (w : Bor (List ℕ)). w.now) c.deref.result.now ≡ words_of c.args.line.now = ap (map (λ (w : Bor (List ℕ)). w.now)) c.deref.ensures.value ∙ c.in_ok-words.ensures in
     let filled : vec_len c.in_ok-words.words ≡ 0 → ⊥ = λ none. let e = eq-eqb (vec_len c.in_ok-words.words) 0 none in let f = c.is_empty.ensures in let h = c.if-is_empty.false in cc in
     let decides : Decides c.starts_with.result (get_or c.index.result.now.now 0 0 ≡ 58) = starts_char 58 c.index.result.now.now c.starts_with.result c.starts_with.ensures.cases (lit< tt) (lit< tt) in
     let first = first_word c.in_ok-words.words.items c.index.result.now (words_of c.args.line.now) c.starts_with.result c.in_ok-words.ensures (omega (arith, c.in_ok-words.words.ok, filled)) c.index.ensures decides in
-    sentence_answer c.args.language.now c.args.state (words_of c.args.line.now) (string_bytes c.in_ok-text.text) first.0 (first.1 ∙ c.if-not-starts_with.true) c.in_ok-text.ensures
+    sentence_answer c.args.language.now c.args.state (words_of c.args.line.now) (string_bytes c.in_ok-text.text) first.0 (first.1 ∙ c.if-not-starts_with.true)
+    (λ N agrees. subst (λ ws. IsSentenceReply solved (grounds N c.args.language.now) (state_seen c.args.state) ws (string_bytes c.in_ok-text.text)) are (c.in_ok-text.ensures N agrees))
 
 pub returns-in-Some-clause-answer : goal.returns-in-Some-clause-answer
 returns-in-Some-clause-answer g c =

@@ -1,7 +1,6 @@
-use Rattle.std.proofs.Common.{◌≡◌, length, refl, sym, ap, ◌∙◌, subst, arith}
+use Rattle.std.proofs.Common.{◌≡◌, ℕ, List, map, Bor, length, refl, sym, ap, ◌∙◌, subst, arith}
 use Rattle.std.proofs.lemmas.List.{length-map}
 use Rattle.patr_text.specs.declared.symbols.Id.{Id}
-use Rattle.patr_model.specs.Session.{words_of}
 use Rattle.patr_arena.specs.Blocks.{Extends}
 use Rattle.patr_arena.specs.Paths.{ids}
 use Rattle.patr_arena.specs.Sentences.{sentence_of}
@@ -14,22 +13,22 @@ use Rattle.patr_parse.specs.Found.{AreSound}
 use Rattle.patr_parse.specs.Tasks.{judge}
 use Rattle.patr_parse.proofs.Growing.{extends_same}
 use Rattle.patr_parse.proofs.Sound.{same_length}
-use Rattle.patr_parse.proofs.parse.parse_alone.Goals as goal
+use Rattle.patr_parse.proofs.parse.parse_words.Goals as goal
 
-pub close-requires-clause-base : goal.close-requires-clause-base
-close-requires-clause-base g c =
+pub close-closed-requires-clause-base : goal.close-closed-requires-clause-base
+close-closed-requires-clause-base g c =
     let s = c.args.library.now in
     let is : sentence_of c.over.result ≡ s.shown = c.over.ensures ∙ c.arena.ensures in
     record { longer = subst (λ v. Extends s.shown v) (sym is) (extends_same s.shown); shown = subst IsShown c.arena.ensures c.arena.result.now.lawful }
 
-pub close-requires-clause-stored : goal.close-requires-clause-stored
-close-requires-clause-stored g c = c.rules-rules.ensures.stored
+pub close-closed-requires-clause-stored : goal.close-closed-requires-clause-stored
+close-closed-requires-clause-stored g c = c.rules-rules.ensures.stored
 
-pub close-requires-clause-words : goal.close-requires-clause-words
-close-requires-clause-words g c =
+pub close-closed-requires-clause-words : goal.close-closed-requires-clause-words
+close-closed-requires-clause-words g c =
     let known = c.in-Ok.ensures.numbers in
     let short = known.short in
-    let same = same_length _ (words_of c.args.sentence.now) (ids c.in-Ok.numbers.items) known.are in
+    let same = same_length _ (map (λ (w : Bor (List ℕ)). w.now) c.args.words.now) (ids c.in-Ok.numbers.items) known.are in
     omega (arith, short, same, length-map c.in-Ok.numbers.items (λ (a : Id). a.0), ap length c.deref.ensures.value)
 
 pub returns-in_default-clause-refused : goal.returns-in_default-clause-refused
@@ -44,7 +43,7 @@ returns-clause-parsed g c =
     let s = c.args.library.now in
     let known = c.in-Ok.ensures.numbers in
     let items = c.in-Ok.numbers.items in
-    let w = sentence_of c.close.new.work.arena in
+    let w = sentence_of c.close-closed.new.work.arena in
     let chart = c.in-Some.closed.chart in
     let first = rw c.in-Some.is at c.in_ok-closed.ensures.closed in
     let closed = subst (λ l. IsClosed s (ids l) c.args.limit w chart c.in-Some.closed.decided) c.deref.ensures.value first in
@@ -61,7 +60,7 @@ pub analyses_of-requires-clause-short : goal.analyses_of-requires-clause-short
 analyses_of-requires-clause-short g c =
     let known = c.in-Ok.ensures.numbers in
     let short = known.short in
-    let same = same_length _ (words_of c.args.sentence.now) (ids c.in-Ok.numbers.items) known.are in
+    let same = same_length _ (map (λ (w : Bor (List ℕ)). w.now) c.args.words.now) (ids c.in-Ok.numbers.items) known.are in
     omega (arith, short, same, length-map c.in-Ok.numbers.items (λ (a : Id). a.0), ap length c.deref-2.ensures.value)
 
 pub analyses_of-requires-clause-edges : goal.analyses_of-requires-clause-edges
