@@ -112,7 +112,7 @@ fn long_files_are_refused(rt: HostRuntime) -> Result<(), Fail> {
 #[test]
 fn long_inputs_are_refused(rt: HostRuntime) -> Result<(), Fail> {
     let alloc = rt.alloc();
-    let input = blank_lines(alloc, 16_777_217)?;
+    let input = filled(alloc, b"", b'a', 16_777_217)?;
     let setting = well(GRAMMAR, LEXICON, &input);
     let written = b"error: input longer than 16777216 bytes\n";
     assert!(rt; gives(&rt, alloc, FILES, setting, 7, written)?);
