@@ -1,0 +1,125 @@
+//! Numbers that threads draw, each once and none left out.
+ghost use Rattle.std.specs.Prelude.{◌≡◌, ℕ, ◌+◌, ◌<◌, ◌≤◌, ◌^◌, List, [], ◌∷◌, ◌++◌, All, length, map, sum_by, IfOk};
+ghost use Rattle.patr_claims.specs.Tasks.{times, times_in, EachBelow};
+ghost use Rattle.patr_claims.specs.Ticketing.{Drawn, Issued, ticket_view};
+ghost use Rattle.std.specs.List.Sorted.{IsStrictlyIncreasing};
+
+use crate::Memory;
+use crate::ticketing::{DrawTicket, TicketView, JoinTicketSeats, TicketRule, SplitTicketSeat};
+use atomic_table::{Seat, Table};
+use std::alloc::Global;
+use std::marker::Model;
+
+type TicketTable = Table<(), TicketView, u64, TicketRule, Global>;
+
+/// Tickets are the numbers from 0 on.
+#[derive(Drop)]
+pub struct Tickets {
+    table: TicketTable,
+    seats: u32,
+}
+
+impl Model for Tickets {
+    ghost use Rattle.std.specs.Prelude.{◌≡◌, ◌<◌};
+    ghost use Rattle.patr_claims.specs.Ticketing.{Issued};
+
+    ghost Value = { Issued };
+
+    ghost view = { λ t. record { table = t.table.shared.table_id; seats = t.seats } };
+
+    ghost invariant = { λ t. (t.table.shared.key ≡ t.seats) × (t.table.shared.table_id.words ≡ 1) × (t.table.shared.table_id.slots ≡ 0) × (0 < t.seats) };
+}
+
+/// A worker's place at the [`Tickets`]. What it drew rises.
+#[derive(Drop)]
+pub struct TicketSeat {
+    pass: Seat<(), TicketView>,
+}
+
+impl Model for TicketSeat {
+    ghost use Rattle.std.specs.Prelude.{◌≡◌, []};
+    ghost use Rattle.std.specs.List.Sorted.{IsStrictlyIncreasing};
+    ghost use Rattle.patr_claims.specs.Ticketing.{Drawn, ticket_view};
+
+    ghost Value = { Drawn };
+
+    ghost view = { λ s. record { table = s.pass.table_id; numbers = s.pass.me.0.drawn } };
+
+    ghost invariant = { λ s. (s.pass.me ≡ (ticket_view 1 s.pass.me.0.drawn, [])) × IsStrictlyIncreasing s.pass.me.0.drawn };
+}
+
+impl TicketSeat {
+    fn of(pass: Seat<(), TicketView>) -> TicketSeat
+        requires { pass.me ≡ (ticket_view 1 [], []) }
+        ensures { (result.table ≡ pass.table_id) × (result.numbers ≡ []) }
+    {
+        TicketSeat { pass }
+    }
+}
+
+impl Tickets {
+    /// Tickets with their seats, none of which has drawn one.
+    pub fn new(alloc: Global, seats: u32) -> Result<(Tickets, Vec<TicketSeat>), Memory>
+        requires { (1 ≤ seats) × (seats ≤ 16) }
+        ensures seats { IfOk result (λ made. (made.0.seats ≡ seats) × (length made.1.items ≡ seats)) }
+        ensures fresh { IfOk result (λ made. All (λ seat. (seat.table ≡ made.0.table) × (seat.numbers ≡ [])) made.1.items) }
+    {
+        let mut made = Vec::with_capacity(alloc, seats as usize)?;
+        let (table, mut pass) = TicketTable::of_words(alloc, &[0], &u64::from(seats))?;
+        for _ in 1..seats {
+            let one = table.shared.split_seat::<SplitTicketSeat>(&mut pass);
+            made.push_reserved(TicketSeat::of(one));
+        }
+        made.push_reserved(TicketSeat::of(pass));
+        Ok((Tickets { table, seats }, made))
+    }
+
+    /// The number of tickets that were drawn before.
+    pub fn draw(&self, seat: &mut TicketSeat) -> u64
+        requires here { seat.old.table ≡ self.now.table }
+        requires few { length seat.old.numbers < 2 ^ 59 }
+        ensures here { seat.new.table ≡ seat.old.table }
+        ensures drawn { seat.new.numbers ≡ seat.old.numbers ++ result ∷ [] }
+        ensures rises { All (λ number. number < result) seat.old.numbers × IsStrictlyIncreasing seat.new.numbers }
+    {
+        self.table
+            .shared
+            .fetch_add::<DrawTicket>(&mut seat.pass, 0, 1)
+    }
+
+    /// The number of tickets that all seats drew. They are the numbers below it, each drawn once.
+    pub fn close(self, seats: Vec<TicketSeat>) -> u64
+        requires here { All (λ seat. seat.table ≡ self.table) seats.items }
+        requires all { length seats.items ≡ self.seats }
+        ensures total { result ≡ sum_by length (map (λ seat. seat.numbers) seats.items) }
+        ensures once { EachBelow result (map (λ seat. seat.numbers) seats.items) }
+        ensures no_other { (number : ℕ) → result ≤ number → times_in number (map (λ seat. seat.numbers) seats.items) ≡ 0 }
+    {
+        let Tickets { table, seats: _ } = self;
+        let mut rest = seats.into_iter();
+        let Some(first) = rest.next() else {
+            return 0;
+        };
+        let TicketSeat { mut pass } = first;
+        for seat in rest {
+            let TicketSeat { pass: other } = seat;
+            table.shared.join_seat::<JoinTicketSeats>(&mut pass, other);
+        }
+        total_of(table, pass)
+    }
+}
+
+// The number of tickets, from the pass that stands for all seats.
+fn total_of(table: TicketTable, pass: Seat<(), TicketView>) -> u64
+    requires here { pass.table_id ≡ table.shared.table_id }
+    requires word { (table.shared.table_id.words ≡ 1) × (table.shared.table_id.slots ≡ 0) }
+    requires all { pass.me.0.seats ≡ table.shared.key }
+    ensures total { result ≡ length pass.me.0.drawn }
+    ensures once { (number : ℕ) → number < result → times number pass.me.0.drawn ≡ 1 }
+    ensures no_other { (number : ℕ) → result ≤ number → times number pass.me.0.drawn ≡ 0 }
+{
+    let closed = table.close_with(pass);
+    let total = closed.word(0);
+    closed.free();
+    total
+}
