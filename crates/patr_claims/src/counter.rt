@@ -133,8 +133,9 @@ impl Gathered {
 }
 
 impl CounterDesk {
-    /// A desk for these tasks, with its seats, which have taken nothing and have not seen None. All memory that
-    /// the desk and its seats will need is taken here: each seat has room for every task. Fails for memory alone.
+    /// A desk for these tasks, with its seats, which have taken nothing and have not seen None. All
+    /// memory that the desk and its seats will need is taken here: each seat has room for every
+    /// task. Fails for memory alone.
     pub fn new(
         alloc: Global,
         tasks: u64,
@@ -189,7 +190,16 @@ impl Desk for CounterDesk {
 
     ghost has_seen_none = { λ seat. seat.seen_none };
 
-    fn take(&self, seat: &mut CounterSeat) -> Option<u64> {
+    /// None exactly where the word that this call drew is no task.
+    fn take(&self, seat: &mut CounterSeat) -> Option<u64>
+        requires here { (seat.old.pass.table_id ≡ self.now.table.shared.table_id) × (seat.old.tasks ≡ self.now.tasks) }
+        requires before_none { seat.old.seen_none ≡ false }
+        ensures here { (seat.new.pass.table_id ≡ self.now.table.shared.table_id) × (seat.new.tasks ≡ self.now.tasks) }
+        ensures task { IfSome result (λ n. IsTaken self.now.tasks n seat.old.taken.items seat.new.taken.items) }
+        ensures going_on { IfSome result (λ _. seat.new.seen_none ≡ false) }
+        ensures end { IfNone result ((seat.new.taken.items ≡ seat.old.taken.items) × (seat.new.seen_none ≡ true)) }
+        ensures word { IsDraw seat.old.pass.me.0 seat.new.pass.me.0 result }
+    {
         seat.draw(&self.table)
     }
 

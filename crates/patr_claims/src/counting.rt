@@ -9,8 +9,8 @@ pub struct DeskSize {
     pub seats: u64,
 }
 
-/// What a pass knows: the number of tasks, for how many seats it stands, what it drew, and how often it saw the end.
-/// No value of it is made.
+/// What a pass knows: the number of tasks, for how many seats it stands, what it drew, and how
+/// often it saw the end. No value of it is made.
 pub struct DeskView {
     pub tasks: u64,
     pub seats: u64,

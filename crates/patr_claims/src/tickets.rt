@@ -1,11 +1,11 @@
-//! Numbers that threads draw, each once and none left out.
+//! Tickets: numbers that several seats draw, each once and none left out.
 ghost use Rattle.std.specs.Prelude.{◌≡◌, ℕ, ◌+◌, ◌<◌, ◌≤◌, ◌^◌, List, [], ◌∷◌, ◌++◌, All, length, map, sum_by, IfOk};
-ghost use Rattle.patr_claims.specs.Tasks.{times, times_in, EachBelow};
+ghost use Rattle.patr_claims.specs.Tasks.{times, EachBelow, NoneFrom};
 ghost use Rattle.patr_claims.specs.Ticketing.{Drawn, Issued, ticket_view};
 ghost use Rattle.std.specs.List.Sorted.{IsStrictlyIncreasing};
 
 use crate::Memory;
-use crate::ticketing::{DrawTicket, TicketView, JoinTicketSeats, TicketRule, SplitTicketSeat};
+use crate::ticketing::{DrawTicket, JoinTicketSeats, SplitTicketSeat, TicketRule, TicketView};
 use atomic_table::{Seat, Table};
 use std::alloc::Global;
 use std::marker::Model;
@@ -58,11 +58,12 @@ impl TicketSeat {
 }
 
 impl Tickets {
-    /// Tickets with their seats, none of which has drawn one.
+    /// Tickets with their seats, none of which has drawn one. Fails for memory alone.
     pub fn new(alloc: Global, seats: u32) -> Result<(Tickets, Vec<TicketSeat>), Memory>
         requires { (1 ≤ seats) × (seats ≤ 16) }
         ensures seats { IfOk result (λ made. (made.0.seats ≡ seats) × (length made.1.items ≡ seats)) }
-        ensures fresh { IfOk result (λ made. All (λ seat. (seat.table ≡ made.0.table) × (seat.numbers ≡ [])) made.1.items) }
+        ensures here { IfOk result (λ made. All (λ seat. seat.table ≡ made.0.table) made.1.items) }
+        ensures fresh { IfOk result (λ made. All (λ seat. seat.numbers ≡ []) made.1.items) }
     {
         let mut made = Vec::with_capacity(alloc, seats as usize)?;
         let (table, mut pass) = TicketTable::of_words(alloc, &[0], &u64::from(seats))?;
@@ -74,7 +75,8 @@ impl Tickets {
         Ok((Tickets { table, seats }, made))
     }
 
-    /// The number of tickets that were drawn before.
+    /// The next ticket: the number of those that were drawn before, by whatever seat. It is above
+    /// all that this seat drew. It takes no memory and waits for nobody.
     pub fn draw(&self, seat: &mut TicketSeat) -> u64
         requires here { seat.old.table ≡ self.now.table }
         requires few { length seat.old.numbers < 2 ^ 59 }
@@ -87,13 +89,14 @@ impl Tickets {
             .fetch_add::<DrawTicket>(&mut seat.pass, 0, 1)
     }
 
-    /// The number of tickets that all seats drew. They are the numbers below it, each drawn once.
+    /// How many tickets the seats drew. They are the numbers below it, each drawn once, and no
+    /// others. It takes no memory and waits for nobody.
     pub fn close(self, seats: Vec<TicketSeat>) -> u64
         requires here { All (λ seat. seat.table ≡ self.table) seats.items }
         requires all { length seats.items ≡ self.seats }
         ensures total { result ≡ sum_by length (map (λ seat. seat.numbers) seats.items) }
         ensures once { EachBelow result (map (λ seat. seat.numbers) seats.items) }
-        ensures no_other { (number : ℕ) → result ≤ number → times_in number (map (λ seat. seat.numbers) seats.items) ≡ 0 }
+        ensures no_other { NoneFrom result (map (λ seat. seat.numbers) seats.items) }
     {
         let Tickets { table, seats: _ } = self;
         let mut rest = seats.into_iter();

@@ -9,5 +9,6 @@ invariant-loop l = record {
   left : l.pass.me ≡ (ticket_view (l.seats + 1 - l.counter) [], []);
   count : vec_len l.made + 1 ≡ l.counter;
   room : vec_capacity l.made ≡ l.seats;
-  fresh : All (λ seat. (seat.table ≡ l.table.shared.table_id) × (seat.numbers ≡ [])) l.made.items;
+  places : All (λ seat. seat.table ≡ l.table.shared.table_id) l.made.items;
+  fresh : All (λ seat. seat.numbers ≡ []) l.made.items;
 }

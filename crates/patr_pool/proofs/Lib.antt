@@ -1,0 +1,3 @@
+pub mod MoreOutcomes
+pub mod MoreRuns
+pub mod MorePlaces
