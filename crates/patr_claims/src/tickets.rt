@@ -80,7 +80,7 @@ impl Tickets {
     pub fn draw(&self, seat: &mut TicketSeat) -> u64
         requires here { seat.old.table ≡ self.now.table }
         requires few { length seat.old.numbers < 2 ^ 59 }
-        ensures here { seat.new.table ≡ seat.old.table }
+        ensures here { seat.new.table ≡ self.now.table }
         ensures drawn { seat.new.numbers ≡ seat.old.numbers ++ result ∷ [] }
         ensures rises { All (λ number. number < result) seat.old.numbers × IsStrictlyIncreasing seat.new.numbers }
     {
