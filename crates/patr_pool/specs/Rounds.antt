@@ -1,5 +1,5 @@
 -- What workers and rounds leave.
-use Rattle.std.specs.Prelude.{◌≡◌, ℕ, ◌<◌, ◌≤◌, ◌⊎◌, Bool, true, false, List, [], ◌∷◌, ◌++◌, All, map, ◌||◌}
+use Rattle.std.specs.Prelude.{◌≡◌, ℕ, ◌<◌, ◌≤◌, ◌⊎◌, Bool, true, false, List, [], ◌∷◌, ◌++◌, All, map, sum_by, vec_len, ◌||◌}
 use Rattle.patr_claims.specs.Tasks.{times, times_in, all_of, NoneTwice, EachBelow, NoneFrom}
 use Rattle.patr_pool.specs.declared.work.Outcome.{Outcome}
 use Rattle.patr_pool.specs.declared.work.Outcome.TheVariants.{Nothing, Made, Stop}
@@ -8,6 +8,7 @@ use Rattle.patr_pool.specs.declared.worker.Ran.{Ran}
 use Rattle.patr_pool.specs.declared.workers.Waiting.{Waiting}
 use Rattle.patr_pool.specs.declared.workers.Worker.{Worker}
 use Rattle.patr_pool.specs.declared.workers.Worker.TheVariants.{Ready, Done, Failed}
+use Rattle.patr_pool.specs.declared.gathered.Gathered.{Gathered}
 use Rattle.patr_pool.specs.declared.round.Round.{Round}
 use Rattle.patr_pool.specs.Outcomes.{tasks_of, AreMade, Yielded}
 use Rattle.std.specs.List.Sorted.{IsStrictlyIncreasing}
@@ -57,8 +58,15 @@ module _ {S L T : Type 0} (is_seat : S → Type 0) (taken : S → List ℕ) (has
     pub workers : AreWorkers second (map taken seats) locals stopped
     pub yielded : Yielded first (all_of (map taken seats)) stopped yields
 
+  abbrev pub AreGathered : Gathered S L T → Type 0
+  AreGathered all = AreRuns all.seats.items all.locals.items all.yields.items all.stopped
+
 abbrev pub lists_of : {L T : Type 0} → Round L T → List (List ℕ)
 lists_of round = map (λ list. list.items) round.lists.items
+
+-- how many tasks the lists hold
+abbrev pub tasks_in : {L T : Type 0} → Round L T → ℕ
+tasks_in round = sum_by (λ list. vec_len list) round.lists.items
 
 -- what a round gave
 pub record IsRound {L T : Type 0} (tasks : ℕ) (first : ℕ → Outcome T → Type 0) (second : List ℕ → Bool → L → Type 0) (round : Round L T) : Type 0 where

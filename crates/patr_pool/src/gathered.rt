@@ -1,6 +1,6 @@
 // What several workers leave, put together.
 ghost use Rattle.std.specs.Prelude.{◌≡◌, ◌+◌, ◌||◌, false, [], All, length, IfOk, OnOk};
-ghost use Rattle.patr_pool.specs.Rounds.{IsRun, HasRun, AreRuns};
+ghost use Rattle.patr_pool.specs.Rounds.{IsRun, HasRun, AreGathered};
 
 use crate::Memory;
 use crate::work::{Work, Yield};
@@ -37,8 +37,8 @@ pub fn add<D: Desk, W: Work>(
     ran: Ran<D::Seat, W::Local, W::Out>,
 ) -> Result<(), Memory>
     requires ran { IsRun (D.is_seat desk.now) D.taken D.has_seen_none (W.first_fact work.now) (W.second_fact work.now) ran }
-    requires all { AreRuns (D.is_seat desk.now) D.taken D.has_seen_none (W.first_fact work.now) (W.second_fact work.now) all.old.seats.items all.old.locals.items all.old.yields.items all.old.stopped }
-    ensures all { OnOk result (AreRuns (D.is_seat desk.now) D.taken D.has_seen_none (W.first_fact work.now) (W.second_fact work.now) all.new.seats.items all.new.locals.items all.new.yields.items all.new.stopped) }
+    requires all { AreGathered (D.is_seat desk.now) D.taken D.has_seen_none (W.first_fact work.now) (W.second_fact work.now) all.old }
+    ensures all { OnOk result (AreGathered (D.is_seat desk.now) D.taken D.has_seen_none (W.first_fact work.now) (W.second_fact work.now) all.new) }
     ensures count { OnOk result (length all.new.seats.items ≡ length all.old.seats.items + 1) }
 {
     let Ran {
@@ -87,7 +87,7 @@ pub fn gather<D: Desk, W: Work>(
     workers: Vec<Worker<D::Seat, W::Local, W::Out>>,
 ) -> Result<Gathered<D::Seat, W::Local, W::Out>, Memory>
     requires { All (HasRun (D.is_seat desk.now) D.taken D.has_seen_none (W.first_fact work.now) (W.second_fact work.now)) workers.items }
-    ensures runs { IfOk result (λ all. AreRuns (D.is_seat desk.now) D.taken D.has_seen_none (W.first_fact work.now) (W.second_fact work.now) all.seats.items all.locals.items all.yields.items all.stopped) }
+    ensures runs { IfOk result (AreGathered (D.is_seat desk.now) D.taken D.has_seen_none (W.first_fact work.now) (W.second_fact work.now)) }
     ensures count { IfOk result (λ all. length all.seats.items ≡ length workers.items) }
 {
     let mut all = none_yet(alloc);

@@ -1,8 +1,8 @@
 //! A round: several workers, or one, go through all tasks of a desk.
-ghost use Rattle.std.specs.Prelude.{◌≡◌, ◌≤◌, ◌+◌, ◌-◌, ◌^◌, ◌<◌, ℕ, false, true, [], All, length, min, sum_by, vec_len, IfOk, MatchResult};
+ghost use Rattle.std.specs.Prelude.{◌≡◌, ◌≤◌, ◌+◌, ◌-◌, ◌^◌, ◌<◌, ℕ, false, true, [], All, length, min, sum_by, vec_len, IfOk, IfErr};
 ghost use Rattle.patr_pool.specs.Outcomes.{AreMade};
 ghost use Rattle.patr_pool.specs.Placing.{AreRising};
-ghost use Rattle.patr_pool.specs.Rounds.{IsReady, AreRuns, IsRound};
+ghost use Rattle.patr_pool.specs.Rounds.{IsReady, AreGathered, IsRound, tasks_in};
 
 use crate::Memory;
 use crate::docket::Docket;
@@ -38,7 +38,7 @@ fn finish<D: Desk, W: Work>(
     of: u64,
     all: Gathered<D::Seat, W::Local, W::Out>,
 ) -> Result<Round<W::Local, W::Out>, Memory>
-    requires runs { AreRuns (D.is_seat desk) D.taken D.has_seen_none (W.first_fact work.now) (W.second_fact work.now) all.seats.items all.locals.items all.yields.items all.stopped }
+    requires runs { AreGathered (D.is_seat desk) D.taken D.has_seen_none (W.first_fact work.now) (W.second_fact work.now) all }
     requires all { length all.seats.items ≡ D.seat_count desk }
     requires tasks { of ≡ D.tasks desk }
     ensures { IfOk result (IsRound of (W.first_fact work.now) (W.second_fact work.now)) }
@@ -127,7 +127,8 @@ pub fn run_round<D: Desk, G: Gate + Sync, W: Work + Sync, R: Threads + Wait + Sy
     requires locals { All (W.second_fact work.now [] false) locals.items }
     requires tasks { (of ≡ D.tasks desk) × (of ≡ W.tasks work.now) }
     ensures round { IfOk result (IsRound of (W.first_fact work.now) (W.second_fact work.now)) }
-    ensures docket { MatchResult result (λ round. docket.new ≡ min (docket.old + sum_by (λ list. vec_len list) round.lists.items) (2 ^ 64 - 1)) (λ _. docket.new ≡ docket.old) }
+    ensures docket { IfOk result (λ round. docket.new ≡ min (docket.old + tasks_in round) (2 ^ 64 - 1)) }
+    ensures kept { IfErr result (λ _. docket.new ≡ docket.old) }
 {
     let mut workers = workers_of(alloc, &desk, work, seats, locals)?;
     run_all(rt, alloc, &desk, of, gate, work, &mut workers);

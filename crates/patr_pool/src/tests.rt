@@ -63,6 +63,7 @@ impl LoneWork for OneMore {
 }
 
 // Says Stop at one task, and makes of the others their number.
+#[derive(Drop)]
 struct StopsAt {
     tasks: u64,
     end: u64,
@@ -94,6 +95,7 @@ impl LoneWork for StopsAt {
 }
 
 // Counts the tasks under a lock, so its calls may wait.
+#[derive(Drop)]
 struct Counting<'a, R: Wait> {
     rt: &'a R,
     done: Mutex<u64>,
@@ -125,6 +127,7 @@ impl<'a, R: Wait + Sync> Work for Counting<'a, R> {
 }
 
 // Holds task 0 until task 1 has begun, and task 1 until task 0 has, for so many turns at most.
+#[derive(Drop)]
 struct Meeting {
     begun: [AtomicBool; 2],
     met: [AtomicBool; 2],
