@@ -18,6 +18,7 @@ pub struct Gathered<S, L, T> {
     pub stopped: bool,
 }
 
+/// Nothing yet.
 pub fn none_yet<S, L, T>(alloc: Global) -> Gathered<S, L, T>
     ensures { (result.seats.items ≡ []) × (result.locals.items ≡ []) × (result.yields.items ≡ []) × (result.stopped ≡ false) }
 {

@@ -15,6 +15,7 @@ pub use gate::{Gate, OpenGate};
 pub use round::{Round, run_alone, run_round};
 pub use work::{LoneWork, Outcome, Work, Yield};
 
+/// Want of memory.
 pub type Memory = std::alloc::AllocError;
 
 #[cfg(test)]
