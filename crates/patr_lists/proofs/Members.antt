@@ -30,8 +30,8 @@ pub in_last : {X : Type 0} (xs : List X) (x : X) → IsIn (xs ++ x ∷ []) x
 in_last [] x = inl refl
 in_last (y ∷ xs) x = inr (in_last xs x)
 
-pub in_before : {X : Type 0} (xs : List X) (x y : X) → IsIn xs y → IsIn (xs ++ x ∷ []) y
-in_before xs x y h = in_left xs (x ∷ []) y h
+pub still_in : {X : Type 0} (xs : List X) (x y : X) → IsIn xs y → IsIn (xs ++ x ∷ []) y
+still_in xs x y h = in_left xs (x ∷ []) y h
 
 pub before_or_last : {X : Type 0} (xs : List X) (x y : X) → IsIn (xs ++ x ∷ []) y → IsIn xs y ⊎ (x ≡ y)
 before_or_last xs x y h = elim (in_cases xs (x ∷ []) y h) [ inl k ↦ inl k | inr k ↦ inr (in_one x y k) ]

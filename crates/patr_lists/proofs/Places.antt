@@ -49,3 +49,9 @@ take_take (suc n) (suc m) (x ∷ xs) h = ap (λ ys. x ∷ ys) (take_take n m xs 
 pub first_contained : {X : Type 0} (xs : List X) → (length xs ≡ 0 → ⊥) → (x : X) × Contains xs x
 first_contained [] h = absurd (h refl)
 first_contained (x ∷ xs) h = (x, (0, omega arith, refl))
+
+-- a place is below another, or so many behind it
+pub below_or_behind : (n k : ℕ) → (k < n) ⊎ ((j : ℕ) × (k ≡ n + j))
+below_or_behind zero k = inr (k, omega arith)
+below_or_behind (suc n) zero = inl (omega arith)
+below_or_behind (suc n) (suc k) = elim (below_or_behind n k) [ inl h ↦ inl (omega (arith, h)) | inr r ↦ inr (r.0, omega (arith, r.1)) ]
