@@ -98,9 +98,9 @@ end_le from (end ∷ ends) zero o h = order_last end ends o.1
 end_le from (end ∷ ends) (suc n) o h = end_le end ends n o.1 (omega (arith, h))
 
 -- what is read of a node by where its arcs begin and end
-pub cut_read : (fs : List Feature) (ends : List ℕ) (nodes : List (List Feature)) (offset start end : ℕ) → IsCut fs ends → cut fs 0 ends ≡ nodes → offset < length nodes
-    → start ≡ begin 0 ends offset → end ≡ get_or ends offset end → (start ≤ end) × (end ≤ length fs) × (slice_range fs start end ≡ get_or nodes offset [])
-cut_read fs ends nodes offset start end c e h s r = (
+pub cut_read : (fs : List Feature) (ends : List ℕ) (nodes : List (List Feature)) (offset start end : ℕ) (slice : List ℕ) → IsCut fs ends → cut fs 0 ends ≡ nodes → offset < length nodes
+    → slice ≡ ends → start ≡ begin 0 slice offset → end ≡ get_or ends offset end → (start ≤ end) × (end ≤ length fs) × (slice_range fs start end ≡ get_or nodes offset [])
+cut_read fs ends nodes offset start end slice c e h d b r = (
   let order = begin_le 0 ends offset c.order inside in omega (arith, order, s, read),
   let most = end_le 0 ends offset c.order inside in let whole = c.last in omega (arith, most, whole, read),
   ap (slice_range fs start) read ∙ (ap (λ n. slice_range fs n (get_or ends offset 0)) s ∙ (sym (cut_at fs 0 ends offset inside) ∙ ap (λ ns. get_or ns offset []) e)),
@@ -111,3 +111,6 @@ cut_read fs ends nodes offset start end c e h s r = (
 
     read : end ≡ get_or ends offset 0
     read = get_or_read ends offset end inside r 0
+
+    s : start ≡ begin 0 ends offset
+    s = b ∙ ap (λ es. begin 0 es offset) d

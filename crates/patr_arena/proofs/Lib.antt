@@ -3,6 +3,7 @@ pub mod Rises
 pub mod Showing
 pub mod Cutting
 pub mod RowsShow
+pub mod InArenas
 pub mod Results
 pub mod SameArenas
 pub mod Arcs

@@ -39,9 +39,12 @@ pub held_push : (v : Shown) (old : List (Value × Value)) (x y : Value) → Pair
 held_push v [] x y h a b = (a, b, tt)
 held_push v (p ∷ old) x y h a b = (h.0, h.1, held_push v old x y h.2 a b)
 
-pub held_pop : (v : Shown) (old : List (Value × Value)) (x y : Value) → PairsAreHeld v (old ++ (x, y) ∷ []) → PairsAreHeld v old × ValueIsHeld v x × ValueIsHeld v y
-held_pop v [] x y h = (tt, h.0, h.1)
-held_pop v (p ∷ old) x y h = let rest = held_pop v old x y h.2 in ((h.0, h.1, rest.0), rest.1, rest.2)
+held_split : (v : Shown) (old : List (Value × Value)) (x y : Value) → PairsAreHeld v (old ++ (x, y) ∷ []) → PairsAreHeld v old × ValueIsHeld v x × ValueIsHeld v y
+held_split v [] x y h = (tt, h.0, h.1)
+held_split v (p ∷ old) x y h = let rest = held_split v old x y h.2 in ((h.0, h.1, rest.0), rest.1, rest.2)
+
+pub held_pop : (v : Shown) (all old : List (Value × Value)) (x y : Value) → all ≡ old ++ (x, y) ∷ [] → PairsAreHeld v all → PairsAreHeld v old × ValueIsHeld v x × ValueIsHeld v y
+held_pop v all old x y e h = held_split v old x y (subst (PairsAreHeld v) e h)
 
 -- what is known in the midst of a node's arcs
 abbrev pub PushedSoFar : Shown → Value → Arcs → List (Value × Value) → List (Value × Value) → Arcs → Type 0
@@ -197,11 +200,11 @@ module _ (v : Shown) (s : IsShown v) where
   start m x y none h = subst (λ f. IsOnPairs v.structure (value_of v x) v.structure (value_of v y) f (pairs_at v ((x, y) ∷ []))) (λ i q. found_of v (sym (none q) i)) (by_pairs (value_of v x) (value_of v y) (value_below v s y h)).start
 
   -- the last pair comes first
-  pub last_first : (f : ℕ → Option structure.Value) (from to : structure.Value) → IsValue v.structure to → (w : List (Value × Value)) (x y : Value) → IsOnPairs v.structure from v.structure to f (pairs_at v (w ++ (x, y) ∷ []))
+  pub last_first : (f : ℕ → Option structure.Value) (from to : structure.Value) → IsValue v.structure to → (all w : List (Value × Value)) (x y : Value) → all ≡ w ++ (x, y) ∷ [] → IsOnPairs v.structure from v.structure to f (pairs_at v all)
       → IsOnPairs v.structure from v.structure to f (pair (value_of v x) (value_of v y) ∷ pairs_at v w)
-  last_first f from to h w x y on =
+  last_first f from to h all w x y e on =
       let one = pair (value_of v x) (value_of v y) ∷ [] in
-      (by_pairs from to h).reordered f (pairs_at v w ++ one) (one ++ pairs_at v w) (waits_turned (pairs_at v w) one) (waits_turned one (pairs_at v w)) (subst (λ ps. IsOnPairs v.structure from v.structure to f ps) (pairs_push v w x y) on)
+      (by_pairs from to h).reordered f (pairs_at v w ++ one) (one ++ pairs_at v w) (waits_turned (pairs_at v w) one) (waits_turned one (pairs_at v w)) (subst (λ ps. IsOnPairs v.structure from v.structure to f ps) (ap (pairs_at v) e ∙ pairs_push v w x y) on)
 
   pub ended : (f : ℕ → Option structure.Value) (from to : structure.Value) → IsValue v.structure to → IsOnPairs v.structure from v.structure to f [] → MapsInto v.structure from v.structure to
   ended f from to h on = (by_pairs from to h).end f on

@@ -159,7 +159,7 @@ pub blocks_shown : (v : Shown) → IsShown v → (blocks : List (List (List Feat
 blocks_shown v s [] are = s
 blocks_shown v s (nodes ∷ blocks) are = blocks_shown (with_block v nodes) (block_shown v s nodes are.0 are.1) blocks are.2
 
-extends_on : (u v w : Shown) → Extends u v → Extends v w → Extends u w
+pub extends_on : (u v w : Shown) → Extends u v → Extends v w → Extends u w
 extends_on u v w e f = record {
   sizes = (e.sizes.0 ++ f.sizes.0, f.sizes.1 ∙ (ap (λ s. s ++ f.sizes.0) e.sizes.1 ∙ append_assoc u.sizes e.sizes.0 f.sizes.0));
   structure = (e.structure.0 ++ f.structure.0, f.structure.1 ∙ (ap (λ s. s ++ f.structure.0) e.structure.1 ∙ append_assoc u.structure e.structure.0 f.structure.0));

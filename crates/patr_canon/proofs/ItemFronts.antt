@@ -1,5 +1,5 @@
 -- What stands at the front of a canonical text is what the reader finds there.
-use Rattle.std.proofs.Common.{◌≡◌, ℕ, zero, suc, ◌+◌, ◌*◌, ◌-◌, ◌<◌, ◌≤◌, ◌^◌, Bool, true, false, cond, nat_eq, eqb-true, eq-eqb, true≢false, List, [], ◌∷◌, ◌++◌, length, slice_get, append_assoc, Option, Some, None, option_map, refl, sym, ap, ◌∙◌, subst, arith}
+use Rattle.std.proofs.Common.{◌≡◌, ℕ, zero, suc, ◌+◌, ◌*◌, ◌-◌, ◌<◌, ◌≤◌, ◌^◌, Bool, true, false, cond, nat_eq, eqb-true, eq-eqb, true≢false, List, [], ◌∷◌, ◌++◌, length, append_assoc, Option, Some, None, option_map, refl, sym, ap, ◌∙◌, subst, arith, ne_eqb}
 use denote.Ref.{Bor}
 use Rattle.patr_model.specs.Bytes.{is_digit}
 use Rattle.patr_model.specs.Items.{AValue, AFirst, ANext, Follows, Item, AnAtom, AnAgain, AnOpening, item_of, item_front, number_item, with_number, value_item, text_of}
@@ -84,19 +84,12 @@ starts c (b ∷ bs) q h = go (nat_eq c b) refl h
 starts_not : (c b : ℕ) (bs : List ℕ) → None ≡ skip (c ∷ []) (b ∷ bs) → (b ≡ c → ⊥)
 starts_not c b bs h e = let bad : None ≡ Some bs = h ∙ (ap (λ x. skip (c ∷ []) (x ∷ bs)) e ∙ skip_back (c ∷ []) bs) in cc
 
-other : (b c : ℕ) → (b ≡ c → ⊥) → nat_eq b c ≡ false
-other b c h = go (nat_eq b c) refl
-  where
-    go : (t : Bool) → nat_eq b c ≡ t → nat_eq b c ≡ false
-    go true e = absurd (h (eqb-true b c e))
-    go false e = e
-
 pub quoted_is : (table : List (List ℕ)) (bs q : List ℕ) (r : Option (Id × Bor (List ℕ))) → Some q ≡ skip (34 ∷ []) bs → IsQuotedFront table q r → IsSymbolFront table bs r
 quoted_is table bs q None h k = λ t r e f. none_not (record { it = t; rest = r }) (sym k ∙ (sym (ap printed_front (starts 34 bs q h)) ∙ f))
 quoted_is table bs q (Some x) h k = (k.0, k.1, ap printed_front (starts 34 bs q h) ∙ k.2)
 
 plain_is : (b : ℕ) (bs : List ℕ) → None ≡ skip (34 ∷ []) (b ∷ bs) → printed_front (b ∷ bs) ≡ Some (bare_front (b ∷ bs))
-plain_is b bs h = ap (λ t. printed_step t b bs) (other b 34 (starts_not 34 b bs h))
+plain_is b bs h = ap (λ t. printed_step t b bs) (ne_eqb b 34 (starts_not 34 b bs h))
 
 pub bare_symbol_is : (table : List (List ℕ)) (bs : List ℕ) (r : Option (Id × Bor (List ℕ))) → None ≡ skip (34 ∷ []) bs → IsBareFront table bs r → IsSymbolFront table bs r
 bare_symbol_is table [] None h k = λ t r e f. cc
@@ -106,12 +99,6 @@ bare_symbol_is table (b ∷ bs) None h k = λ t r e f.
     let same : t ≡ [] = ap (λ (x : Front (List ℕ)). x.it) (some_inj (record { it = t; rest = r }) (bare_front (b ∷ bs)) (sym f ∙ plain_is b bs h)) ∙ k in
     let quote : b ∷ bs ≡ 34 ∷ 34 ∷ r = sym e ∙ ap (λ u. printed u ++ r) same in
     starts_not 34 b bs h (let first : b ≡ 34 = cc in first)
-
--- a symbol with a text is a number below the table's length
-pub text_below : (table : List (List ℕ)) (a : ℕ) (t : List ℕ) → slice_get table a ≡ Some t → a < length table
-text_below [] a t h = cc
-text_below (u ∷ us) zero t h = omega arith
-text_below (u ∷ us) (suc a) t h = let lt = text_below us a t h in omega (arith, lt)
 
 -- ---- attributes
 
@@ -204,8 +191,8 @@ numbered_item table bs rest (Some r) h k = λ l is d x left f fits e. number_eve
 at_atom : (bs : List ℕ) → None ≡ skip (91 ∷ []) bs → None ≡ skip (35 ∷ []) bs → item_front AValue bs ≡ option_map (changed AnAtom) (printed_front bs)
 at_atom [] h k = refl
 at_atom (b ∷ bs) h k =
-    ap (λ t. value_item (cond t Bracket (cond (nat_eq b 35) Numbers Other)) b bs) (other b 91 (starts_not 91 b bs h))
-    ∙ ap (λ t. value_item (cond t Numbers Other) b bs) (other b 35 (starts_not 35 b bs k))
+    ap (λ t. value_item (cond t Bracket (cond (nat_eq b 35) Numbers Other)) b bs) (ne_eqb b 91 (starts_not 91 b bs h))
+    ∙ ap (λ t. value_item (cond t Numbers Other) b bs) (ne_eqb b 35 (starts_not 35 b bs k))
 
 module _ (table : List (List ℕ)) (bs : List ℕ) (no_bracket : None ≡ skip (91 ∷ []) bs) (no_number : None ≡ skip (35 ∷ []) bs)
     (l : Look) (is : IsLookOf table l) (d : ℕ) (x : Event) (left : List Event) (follows : Follows (x ∷ left) AValue d) (text : text_of l (x ∷ left) ≡ bs) where

@@ -1,4 +1,3 @@
-pub mod Results
 pub mod Quoted
 pub mod Orders
 pub mod Walks

@@ -12,7 +12,7 @@ use Rattle.patr_model.proofs.Numbered.{tree_numbers}
 use Rattle.patr_model.proofs.Places.{place_longer, place_there}
 use Rattle.patr_model.proofs.Placed.{outline_is, walk_is_whole}
 use Rattle.patr_model.proofs.Rebuilt.{AreNumbers, AreNumbersOf}
-use Rattle.patr_model.proofs.Stack.{walks_by_stack}
+use Rattle.patr_model.proofs.Stack.{walks_by_stack, opened_append}
 use Rattle.patr_model.proofs.Maps.{some_inj}
 use Rattle.patr_canon.specs.declared.event.Event as its
 use Rattle.patr_canon.specs.Numbers.{AreOnce, EventsAreNumbered, again_of, number_by, opened_of}
@@ -36,25 +36,15 @@ again_more (Opens n ∷ es) e = again_more es e
 again_more (OfArc first a ∷ es) e = again_more es e
 again_more (Closes ∷ es) e = again_more es e
 
-opened_more : (es : List Event) (e : Event) → opened (es ++ e ∷ []) ≡ opened es ++ listed (opened_of e)
-opened_more [] (OfAtom c) = refl
-opened_more [] (OfAgain n) = refl
-opened_more [] (Opens n) = refl
-opened_more [] (OfArc first a) = refl
-opened_more [] Closes = refl
-opened_more (OfAtom c ∷ es) e = opened_more es e
-opened_more (OfAgain n ∷ es) e = opened_more es e
-opened_more (Opens n ∷ es) e = ap (λ ns. n ∷ ns) (opened_more es e)
-opened_more (OfArc first a ∷ es) e = opened_more es e
-opened_more (Closes ∷ es) e = opened_more es e
+opened_one : (e : Event) → opened (e ∷ []) ≡ listed (opened_of e)
+opened_one (OfAtom c) = refl
+opened_one (OfAgain n) = refl
+opened_one (Opens n) = refl
+opened_one (OfArc first a) = refl
+opened_one Closes = refl
 
-opened_append : (es fs : List Event) → opened (es ++ fs) ≡ opened es ++ opened fs
-opened_append [] fs = refl
-opened_append (OfAtom c ∷ es) fs = opened_append es fs
-opened_append (OfAgain n ∷ es) fs = opened_append es fs
-opened_append (Opens n ∷ es) fs = ap (λ ns. n ∷ ns) (opened_append es fs)
-opened_append (OfArc first a ∷ es) fs = opened_append es fs
-opened_append (Closes ∷ es) fs = opened_append es fs
+opened_more : (es : List Event) (e : Event) → opened (es ++ e ∷ []) ≡ opened es ++ listed (opened_of e)
+opened_more es e = opened_append es (e ∷ []) ∙ ap (λ ns. opened es ++ ns) (opened_one e)
 
 seen_more : (es : List its.Event) (i : ℕ) (d : its.Event) → i < length es → events_seen (take (i + 1) es) ≡ events_seen (take i es) ++ event_seen (get_or es i d) ∷ []
 seen_more es i d h = ap events_seen (take_more es i d h) ∙ map-append event_seen (take i es) (get_or es i d ∷ [])

@@ -1,5 +1,5 @@
 -- A text that some value of a structure has is read back.
-use Rattle.std.proofs.Common.{◌≡◌, ℕ, ◌+◌, ◌<◌, ◌^◌, Bool, true, false, true≢false, ltb-true, lt-ltb, List, [], ◌∷◌, map, length, Some, None, option_map, refl, sym, ap, ◌∙◌, subst, arith}
+use Rattle.std.proofs.Common.{◌≡◌, ℕ, ◌<◌, ◌^◌, Bool, true, false, true≢false, ltb-true, List, [], ◌∷◌, map, length, Some, None, option_map, refl, sym, ap, ◌∙◌, subst, arith, zero-add}
 use Rattle.std.specs.Bool.{MatchBool}
 use Rattle.std.specs.Str.{bytes_eq}
 use Rattle.std.proofs.lemmas.List.{length-map}
@@ -10,7 +10,7 @@ use Rattle.patr_model.specs.Structure.{Value, Atom, Node, arc, IsBelow, IsStruct
 use Rattle.patr_model.specs.Subsumption.{Same}
 use Rattle.patr_model.specs.Table.{table_look}
 use Rattle.patr_model.specs.Text.{Outline, canonical, outline}
-use Rattle.patr_model.proofs.Canonical.{one_text, outline_built}
+use Rattle.patr_model.proofs.Canonical.{one_text, outline_built, below_true}
 use Rattle.patr_model.proofs.Items.{reads}
 use Rattle.patr_model.proofs.Local.{local}
 use Rattle.patr_model.proofs.Maps.{some_inj}
@@ -38,12 +38,9 @@ use Rattle.patr_canon.proofs.Spelled.{nodes_own}
 pub block_shown : (n : ℕ) (block : List (List Feature)) → IsBlock block → NodesAreBelow n block → IsStructure (structure_of block)
 block_shown n block is own = (blocks_shown nothing nothing_shown (block ∷ []) (is, nodes_own n block own nothing, tt)).structure
 
-none_before : (k : ℕ) → 0 + k ≡ k
-none_before k = omega arith
-
 root_is : (block : List (List Feature)) (t : Target) → ref_of (with_block nothing block) 0 (ref_seen t) ≡ target_seen t
 root_is block (target.Atom c) = refl
-root_is block (target.Node k) = ap Node (none_before k)
+root_is block (target.Node k) = ap Node (zero-add k)
 
 root_held : (block : List (List Feature)) (t : Target) → IsBelow (length block) (target_seen t) → RefIsHeld (with_block nothing block) 0 (ref_seen t)
 root_held block (target.Atom c) h = tt
@@ -52,10 +49,6 @@ root_held block (target.Node k) h = h
 pub below_is : (n : ℕ) (x : Value) → true ≡ is_below n x → IsBelow n x
 below_is n (Atom c) h = tt
 below_is n (Node k) h = ltb-true k n (sym h)
-
-below_true : (n : ℕ) (x : Value) → IsBelow n x → is_below n x ≡ true
-below_true n (Atom c) h = refl
-below_true n (Node k) h = lt-ltb k n h
 
 more_places : (block : List (List Feature)) (x : Value) → IsBelow (length block) x → IsValue (structure_of block) x
 more_places block (Atom c) h = tt
@@ -149,7 +142,7 @@ value_is_held block (target.Node k) h = h
 
 pub arena_value : (block : List (List Feature)) (t : Target) → value_of (with_block nothing block) (value_seen t) ≡ target_seen t
 arena_value block (target.Atom c) = refl
-arena_value block (target.Node k) = ap Node (none_before k)
+arena_value block (target.Node k) = ap Node (zero-add k)
 
 pub match_text : (r : Bool) (x y z : List ℕ) → r ≡ bytes_eq x y → z ≡ x → MatchBool r (z ≡ y) (z ≡ y → ⊥)
 match_text true x y z e h = h ∙ (bytes_eq-Decides x y).0 (sym e)

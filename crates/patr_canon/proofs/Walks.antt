@@ -4,6 +4,7 @@ use Rattle.std.proofs.lemmas.List.{append_assoc, map-append, length-map, reverse
 use Rattle.std.proofs.lemmas.List.Elements.{recursion_from_All}
 use Rattle.std.specs.HashSet.{HashSet, IsEmpty, contains}
 use Rattle.std.specs.List.{All, AllByRecursion, list_any}
+use Rattle.patr_lists.proofs.Alls.{all_append}
 use Rattle.patr_model.specs.Structure as structure
 use Rattle.patr_model.specs.Structure.{Node, Atom, Arcs, Structure, HasDistinct, IsStructure, along, arcs_of, at}
 use Rattle.patr_model.specs.Stack.{Event, OfAtom, OfAgain, Opens, OfArc, Closes, events, events_of, full}
@@ -79,10 +80,6 @@ pub attributes_below : (n : ℕ) (S : Structure) (m : ℕ) → IsStructure S →
 attributes_below n S m s h = all_along (λ a x. a < n) (arcs_of S (Node m)) (s.distinct m) (λ a x q. h.attributes [] (Node m) a x refl q)
 
 -- ---- lists
-
-all_append : {X : Type 0} (P : X → Type 0) (xs ys : List X) → AllByRecursion P xs → AllByRecursion P ys → AllByRecursion P (xs ++ ys)
-all_append P [] ys h k = k
-all_append P (x ∷ xs) ys h k = (h.0, all_append P xs ys h.1 k)
 
 one_seen : (es : List its.Event) (e : its.Event) → events_seen (es ++ e ∷ []) ≡ events_seen es ++ event_seen e ∷ []
 one_seen es e = map-append event_seen es (e ∷ [])

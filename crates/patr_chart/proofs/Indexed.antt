@@ -3,13 +3,16 @@ use Rattle.std.proofs.Common.{◌≡◌, ◌⊎◌, inl, inr, ℕ, suc, ◌<◌,
 use Rattle.std.proofs.lemmas.List.{take-append-le, get_or_append_left}
 use Rattle.std.proofs.lemmas.Option.{slice_get-get_or}
 use Rattle.std.proofs.Math.Seq.{take-append_seam, get_or-append_seam}
+use Rattle.patr_lists.proofs.Tables.{index_kept, places_length, index_added}
+use Rattle.patr_lists.specs.Numbers.{places}
+use Rattle.patr_lists.specs.Tables.{Table, with_number}
+use Rattle.patr_lists.proofs.Places.{get_cases}
 use Rattle.patr_chart.specs.declared.edge.Edge.{Edge}
 use Rattle.patr_chart.specs.Edges.{is_passive}
-use Rattle.patr_chart.specs.Lists.{Numbers, with_number, neighbours, IsEntered}
+use Rattle.patr_chart.specs.Lists.{neighbours, IsEntered}
 use Rattle.patr_chart.specs.Charted.{starts_at, ends_at, is_partner, partners, IsEdgeAfter, AreEdges}
-use Rattle.patr_model.specs.Numbered.{places}
 use Rattle.patr_chart.specs.Kept.{IsIndexed}
-use Rattle.patr_chart.proofs.Places.{get_cases, partners_last, partners_before, index_added, index_kept, places_length, found}
+use Rattle.patr_chart.proofs.Places.{partners_last, partners_before, found}
 
 edges_after : (words : ℕ) (es : List Edge) (e : Edge) → AreEdges words es → IsEdgeAfter words es e → AreEdges words (es ++ e ∷ [])
 edges_after words es e all last k f at = go (get_cases es e k f at)
@@ -19,7 +22,7 @@ edges_after words es e all last k f at = go (get_cases es e k f at)
     go (inr h) = subst (λ l. IsEdgeAfter words l f) (sym (ap (λ n. take n (es ++ e ∷ [])) h.0 ∙ take-append_seam es (e ∷ []))) (subst (λ x. IsEdgeAfter words es x) h.1 last)
 
 -- the neighbours are the edges that pass the test
-pub near : (words : ℕ) (es : List Edge) (ns : List ℕ) (S E : Numbers) → IsIndexed words es ns S E → (e : Edge) → e.start ≤ e.end → e.end ≤ words → neighbours S E e ≡ places (is_partner e) 0 es
+pub near : (words : ℕ) (es : List Edge) (ns : List ℕ) (S E : Table) → IsIndexed words es ns S E → (e : Edge) → e.start ≤ e.end → e.end ≤ words → neighbours S E e ≡ places (is_partner e) 0 es
 near words es ns S E k e order within = go (is_passive e)
   where
     go : (b : Bool) → cond b (get_or E e.start []) (get_or S e.end []) ≡ places (cond b (ends_at e.start) (starts_at e.end)) 0 es
@@ -27,10 +30,10 @@ near words es ns S E k e order within = go (is_passive e)
     go false = k.starting e.end within
 
 -- they are no more than there are edges
-pub few_neighbours : (words : ℕ) (es : List Edge) (ns : List ℕ) (S E : Numbers) → IsIndexed words es ns S E → (e : Edge) → e.start ≤ e.end → e.end ≤ words → length (neighbours S E e) ≤ length es
+pub few_neighbours : (words : ℕ) (es : List Edge) (ns : List ℕ) (S E : Table) → IsIndexed words es ns S E → (e : Edge) → e.start ≤ e.end → e.end ≤ words → length (neighbours S E e) ≤ length es
 few_neighbours words es ns S E k e order within = omega (arith, ap length (near words es ns S E k e order within), places_length (is_partner e) 0 es)
 
-module _ (words : ℕ) (es : List Edge) (e : Edge) (S E : Numbers) (last : IsEdgeAfter words es e) where
+module _ (words : ℕ) (es : List Edge) (e : Edge) (S E : Table) (last : IsEdgeAfter words es e) where
   starting_after : (b : Bool) → is_passive e ≡ b → length S ≡ suc words → ((s : ℕ) → s ≤ words → get_or S s [] ≡ places (starts_at s) 0 es)
       → (s : ℕ) → s ≤ words → get_or (cond b (with_number S e.start (length es)) S) s [] ≡ places (starts_at s) 0 (es ++ e ∷ [])
   starting_after true q long is s h = index_added (starts_at s) es e S e.start s (omega (arith, long, last.order, last.within)) (ap (λ b. cond b (nat_eq e.start s) false) q) (is s h)
@@ -41,15 +44,15 @@ module _ (words : ℕ) (es : List Edge) (e : Edge) (S E : Numbers) (last : IsEdg
   ending_after true q long is s h = index_kept (ends_at s) es e (get_or E s []) (ap (λ b. cond b false (nat_eq e.end s)) q) (is s h)
   ending_after false q long is s h = index_added (ends_at s) es e E e.end s (omega (arith, long, last.order, last.within)) (ap (λ b. cond b false (nat_eq e.end s)) q) (is s h)
 
-  long_if : (b : Bool) (L : Numbers) (n : ℕ) → length L ≡ suc words → length (cond b (with_number L n (length es)) L) ≡ suc words
+  long_if : (b : Bool) (L : Table) (n : ℕ) → length L ≡ suc words → length (cond b (with_number L n (length es)) L) ≡ suc words
   long_if true L n h = length-set L n (get_or L n [] ++ length es ∷ []) ∙ h
   long_if false L n h = h
 
-  long_unless : (b : Bool) (L : Numbers) (n : ℕ) → length L ≡ suc words → length (cond b L (with_number L n (length es))) ≡ suc words
+  long_unless : (b : Bool) (L : Table) (n : ℕ) → length L ≡ suc words → length (cond b L (with_number L n (length es))) ≡ suc words
   long_unless true L n h = h
   long_unless false L n h = length-set L n (get_or L n [] ++ length es ∷ []) ∙ h
 
-  pub more_indexed : (ns : List ℕ) (S2 E2 : Numbers) → IsIndexed words es ns S E → IsEntered e (length es) S E S2 E2 → suc (length es) < 2 ^ 32
+  pub more_indexed : (ns : List ℕ) (S2 E2 : Table) → IsIndexed words es ns S E → IsEntered e (length es) S E S2 E2 → suc (length es) < 2 ^ 32
       → IsIndexed words (es ++ e ∷ []) (ns ++ length (neighbours S E e) ∷ []) S2 E2
   more_indexed ns S2 E2 k i few = record {
     few = omega (arith, few, length-append es (e ∷ []));
@@ -76,7 +79,7 @@ module _ (words : ℕ) (es : List Edge) (e : Edge) (S E : Numbers) (last : IsEdg
           ∙ (ap length (near words es ns S E k e last.order last.within) ∙ (ap length (sym (partners_last es e)) ∙ ap (λ j. length (partners (es ++ e ∷ []) j)) (sym h))))
 
 -- what the indexes give for edge k
-module _ (words : ℕ) (es : List Edge) (ns : List ℕ) (S E : Numbers) (x : IsIndexed words es ns S E) (k : ℕ) (e : Edge) (n : ℕ) (list : List ℕ) (here : k < length es) (is : e ≡ get_or es k e) (count : n ≡ get_or ns k n) where
+module _ (words : ℕ) (es : List Edge) (ns : List ℕ) (S E : Table) (x : IsIndexed words es ns S E) (k : ℕ) (e : Edge) (n : ℕ) (list : List ℕ) (here : k < length es) (is : e ≡ get_or es k e) (count : n ≡ get_or ns k n) where
   pub edge_at : slice_get es k ≡ Some e
   edge_at = slice_get-get_or es k e here ∙ ap (λ x. Some x) (sym is)
 

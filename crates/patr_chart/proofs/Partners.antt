@@ -2,9 +2,9 @@
 use Rattle.std.proofs.Common.{◌≡◌, inl, inr, ℕ, zero, suc, ◌<◌, Bool, true, false, cond, nat_eq, eqb-true, eq-eqb, List, [], ◌∷◌, take, Some, slice_get, refl, sym, ap, ◌∙◌, arith, subst, zero-add}
 use Rattle.std.specs.List.{Contains}
 use Rattle.std.specs.List.Sorted.{IsStrictlyIncreasing}
+use Rattle.patr_lists.specs.Numbers.{places}
 use Rattle.patr_chart.specs.declared.edge.Edge.{Edge}
 use Rattle.patr_chart.specs.Edges.{is_passive}
-use Rattle.patr_model.specs.Numbered.{places}
 use Rattle.patr_chart.specs.Charted.{starts_at, ends_at, is_partner, partners_of, partners}
 use Rattle.patr_chart.specs.Laws.{IsPartner, IsPartnerBefore, HasPartners}
 use Rattle.patr_chart.proofs.Passing.{places_pass, passes_placed, places_rise}

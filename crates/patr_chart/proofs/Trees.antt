@@ -2,6 +2,7 @@
 use Rattle.std.proofs.Common.{◌≡◌, ℕ, zero, suc, ◌+◌, ◌<◌, ◌≤◌, List, [], ◌∷◌, ◌++◌, length, take, drop, get_or, Option, Some, None, slice_get, refl, sym, ap, ◌∙◌, arith, subst, length-append}
 use Rattle.std.proofs.lemmas.List.{length-take-le, get_or_append_left, take-append-drop}
 use Rattle.std.proofs.Math.Seq.{get_or-append_seam}
+use Rattle.std.proofs.lemmas.Option.{slice_get_within}
 use Rattle.patr_model.specs.Derivation.{Derivation, Begin, Extend, root_item, start, end}
 use Rattle.patr_model.proofs.Maps.{some_inj}
 use Rattle.patr_chart.specs.declared.edge.EdgeKind.{EdgeKind}
@@ -10,11 +11,6 @@ use Rattle.patr_chart.specs.declared.edge.Back.{Back}
 use Rattle.patr_chart.specs.declared.edge.Edge.{Edge}
 use Rattle.patr_chart.specs.Edges.{kind_item}
 use Rattle.patr_chart.specs.Charted.{IsNext, IsAlone, HasOrigin, IsMadeOf, AreEdges, alone, derivation_at, derived_by, derived, derivations_from, derivations, tree}
-
-pub get_below : (es : List Edge) (k : ℕ) (e : Edge) → slice_get es k ≡ Some e → k < length es
-get_below [] k e h = cc
-get_below (x ∷ es) zero e h = omega arith
-get_below (x ∷ es) (suc k) e h = omega (arith, get_below es k e h)
 
 pub get_taken : (es : List Edge) (n k : ℕ) (e : Edge) → slice_get (take n es) k ≡ Some e → (k < n) × (slice_get es k ≡ Some e)
 get_taken es zero k e h = cc
@@ -51,7 +47,7 @@ tree_before es k j h b =
 pub tree_is : (es : List Edge) (k : ℕ) (e : Edge) → slice_get es k ≡ Some e → tree es k ≡ derived (derivations (take k es)) e
 tree_is es k e h =
     let D = derivations (take k es) in
-    let below = get_below es k e h in
+    let below = slice_get_within es k e h in
     let long : length D ≡ k = before_length es k (omega (arith, below)) in
     let whole : derivations es ≡ derivations_from (D ++ derived D e ∷ []) (drop (suc k) es) = ap (λ l. derivations l) (split_at es k e h) ∙ from_append [] (take k es) (e ∷ drop (suc k) es) in
     ap (λ l. get_or l k (Begin 0 0 0)) whole
@@ -77,7 +73,7 @@ tree_longer words es all k e b h q =
     let ground = subst (λ o. HasOrigin (take k es) e o) q (all k e h).origin in
     let a = get_taken es k b.active ground.0 ground.2 in
     let p = get_taken es k b.passive ground.1 ground.3 in
-    let below = get_below es k e h in
+    let below = slice_get_within es k e h in
     record {
       tree = tree_is es k e h ∙ (ap (λ o. derived_by (derivations (take k es)) e o) q
           ∙ (ap (λ t. Extend t (derivation_at (derivations (take k es)) b.passive)) (tree_before es k b.active (omega (arith, below)) a.0)

@@ -1,6 +1,7 @@
 -- One step of writing a key.
 use Rattle.std.proofs.Common.{◌≡◌, ℕ, ◌+◌, List, [], ◌∷◌, ◌++◌, length, map, reverse, Some, None, slice_get, refl, sym, ap, ◌∙◌, arith, append_assoc, append-nil}
 use Rattle.std.proofs.lemmas.List.{reverse-append}
+use Rattle.std.proofs.lemmas.Option.{slice_get_within}
 use Rattle.patr_model.specs.Derivation.{key}
 use Rattle.patr_chart.specs.declared.edge.EdgeKind.{EdgeKind}
 use Rattle.patr_chart.specs.declared.edge.EdgeKind.TheVariants.{Entry, Rule}
@@ -11,7 +12,7 @@ use Rattle.patr_chart.specs.declared.chart.Pending.{Pending}
 use Rattle.patr_chart.specs.Edges.{item_of, kind_item}
 use Rattle.patr_chart.specs.Charted.{alone, tree, AreEdges}
 use Rattle.patr_chart.specs.Pending.{tree_key, pending_keys, whole_key, weight, weights, AreHeld, IsStep}
-use Rattle.patr_chart.proofs.Trees.{tree_alone, tree_longer, tree_of, get_below}
+use Rattle.patr_chart.proofs.Trees.{tree_alone, tree_longer, tree_of}
 
 keys_append : (es : List Edge) (ps qs : List Pending) → pending_keys es (ps ++ qs) ≡ pending_keys es ps ++ pending_keys es qs
 keys_append es [] qs = refl
@@ -82,7 +83,7 @@ module _ (words : ℕ) (es : List Edge) (all : AreEdges words es) (next : Pendin
     pub pair_step : AreHeld (length es) ps → IsStep es (ps ++ next ∷ []) out ((ps ++ first ∷ []) ++ second ∷ []) out
     pair_step h =
         let l = tree_longer words es all next.number e b at some in
-        let below = get_below es next.number e at in
+        let below = slice_get_within es next.number e at in
         record {
           key = pair_written;
           falls = omega (arith, last_weight es (ps ++ first ∷ []) second, last_weight es ps first, last_weight es ps next, ap weight l.tree);

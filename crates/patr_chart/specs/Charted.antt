@@ -3,13 +3,13 @@
 --     partners es k            the numbers below k of the edges that are adjacent to edge k, rising
 --     tree es k                the derivation of edge k
 use Rattle.std.specs.Prelude.{◌≡◌, ℕ, suc, ◌≤◌, Bool, false, cond, nat_eq, List, [], ◌∷◌, ◌++◌, take, Option, Some, None, slice_get, get_or}
+use Rattle.patr_lists.specs.Numbers.{places}
 use Rattle.patr_model.specs.Derivation.{Derivation, Leaf, Begin, Extend}
 use Rattle.patr_chart.specs.declared.edge.EdgeKind.{EdgeKind}
 use Rattle.patr_chart.specs.declared.edge.EdgeKind.TheVariants.{Entry, Rule}
 use Rattle.patr_chart.specs.declared.edge.Back.{Back}
 use Rattle.patr_chart.specs.declared.edge.Edge.{Edge}
 use Rattle.patr_chart.specs.Edges.{is_passive, AreAdjacent}
-use Rattle.patr_model.specs.Numbered.{places}
 
 -- a chart: the number of words of its sentence, and its edges in the order in which they came
 pub record Charted : Type 0 where

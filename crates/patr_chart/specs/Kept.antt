@@ -1,17 +1,17 @@
 -- What the fields of a chart keep.
 use Rattle.std.specs.Prelude.{◌≡◌, ℕ, suc, ◌<◌, ◌≤◌, ◌^◌, List, [], length, get_or}
+use Rattle.patr_lists.specs.Numbers.{places}
+use Rattle.patr_lists.specs.Tables.{Table}
 use Rattle.patr_chart.specs.declared.chart.Chart.TheInside.{Inside}
 use Rattle.patr_chart.specs.declared.edge.Edge.{Edge}
-use Rattle.patr_chart.specs.Lists.{Numbers, numbers}
 use Rattle.patr_chart.specs.Charted.{Charted, starts_at, ends_at, partners, AreEdges}
-use Rattle.patr_model.specs.Numbered.{places}
 
 -- the chart that the fields stand for
 abbrev pub charted : Inside → Charted
 charted c = record { words = c.words; edges = c.edges.items }
 
 -- the lists by position and the numbers of partners are those of the edges
-pub record IsIndexed (words : ℕ) (es : List Edge) (ns : List ℕ) (S E : Numbers) : Type 0 where
+pub record IsIndexed (words : ℕ) (es : List Edge) (ns : List ℕ) (S E : Table) : Type 0 where
   pub few : length es < 2 ^ 32
   pub edges : AreEdges words es
   pub starting_length : length S ≡ suc words
@@ -23,4 +23,4 @@ pub record IsIndexed (words : ℕ) (es : List Edge) (ns : List ℕ) (S E : Numbe
 
 -- the fields of a chart fit together: its lists and its counts are those of its edges
 abbrev pub IsKept : Inside → Type 0
-IsKept c = IsIndexed c.words c.edges.items c.counts.items (numbers c.starting.items) (numbers c.ending.items)
+IsKept c = IsIndexed c.words c.edges.items c.counts.items c.starting c.ending

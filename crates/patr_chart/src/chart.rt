@@ -4,12 +4,12 @@ ghost use Rattle.patr_model.specs.Derivation.{key, start, end};
 ghost use Rattle.patr_chart.specs.Edges.{item_of};
 ghost use Rattle.patr_chart.specs.Charted.{IsEdgeAfter, AreEdges, partners, tree};
 ghost use Rattle.patr_chart.specs.Pending.{AreHeld, IsStep};
-ghost use Rattle.patr_chart.specs.Lists.{numbers, HasPositions, neighbours, IsEntered};
+ghost use Rattle.patr_chart.specs.Lists.{HasPositions, neighbours, IsEntered};
 
 use crate::Memory;
 use crate::edge::Edge;
 use crate::key::KeyItem;
-use crate::lists::{empty_lists, list_at, put};
+use patr_lists::NumberLists;
 use std::alloc::Global;
 use std::marker::Model;
 
@@ -21,8 +21,8 @@ pub struct Chart {
     // how many partners each edge had when it came
     counts: Vec<u32>,
     // by position, the passive edges that start there and the active ones that end there
-    starting: Vec<Vec<u32>>,
-    ending: Vec<Vec<u32>>,
+    starting: NumberLists,
+    ending: NumberLists,
 }
 
 // A tree whose key is still to be written, and where its root ends.
@@ -45,27 +45,26 @@ impl Model for Chart {
 }
 
 // The numbers of the edges that are adjacent to this one, rising.
-fn neighbours<'a>(starting: &'a Vec<Vec<u32>>, ending: &'a Vec<Vec<u32>>, edge: &Edge) -> &'a [u32]
-    requires { HasPositions (numbers starting.now.items) (numbers ending.now.items) edge.now }
-    ensures { result.now ≡ neighbours (numbers starting.now.items) (numbers ending.now.items) edge.now }
+fn neighbours<'a>(starting: &'a NumberLists, ending: &'a NumberLists, edge: &Edge) -> &'a [u32]
+    ensures { result.now ≡ neighbours starting.now ending.now edge.now }
 {
     if edge.is_passive() {
-        list_at(ending, edge.start as usize)
+        ending.list(edge.start as usize)
     } else {
-        list_at(starting, edge.end as usize)
+        starting.list(edge.end as usize)
     }
 }
 
 // Puts an edge's number where its neighbours look for it. False where there is no room, and then nothing changes.
-fn enter(starting: &mut Vec<Vec<u32>>, ending: &mut Vec<Vec<u32>>, edge: &Edge, number: u32) -> bool
-    requires { HasPositions (numbers starting.old.items) (numbers ending.old.items) edge.now }
-    ensures entered { result ≡ true → IsEntered edge.now number (numbers starting.old.items) (numbers ending.old.items) (numbers starting.new.items) (numbers ending.new.items) }
-    ensures same { result ≡ false → (numbers starting.new.items ≡ numbers starting.old.items) × (numbers ending.new.items ≡ numbers ending.old.items) }
+fn enter(starting: &mut NumberLists, ending: &mut NumberLists, edge: &Edge, number: u32) -> bool
+    requires { HasPositions starting.old ending.old edge.now }
+    ensures entered { result ≡ true → IsEntered edge.now number starting.old ending.old starting.new ending.new }
+    ensures same { result ≡ false → (starting.new ≡ starting.old) × (ending.new ≡ ending.old) }
 {
     if edge.is_passive() {
-        put(starting, edge.start as usize, number)
+        starting.put(edge.start as usize, number)
     } else {
-        put(ending, edge.end as usize, number)
+        ending.put(edge.end as usize, number)
     }
 }
 
@@ -74,8 +73,8 @@ impl Chart {
     pub fn new(alloc: Global, words: u32) -> Result<Chart, Memory>
         ensures { IfOk result (λ chart. (chart.words ≡ words) × (chart.edges ≡ [])) }
     {
-        let starting = empty_lists(alloc, words as usize + 1)?;
-        let ending = empty_lists(alloc, words as usize + 1)?;
+        let starting = NumberLists::empty(alloc, words as usize + 1)?;
+        let ending = NumberLists::empty(alloc, words as usize + 1)?;
         Ok(Chart {
             words,
             edges: Vec::new(alloc),

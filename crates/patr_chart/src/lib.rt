@@ -5,7 +5,6 @@ mod chart;
 mod edge;
 mod key;
 mod laws;
-mod lists;
 
 pub use chart::Chart;
 pub use edge::{Back, Edge, EdgeKind};

@@ -7,6 +7,7 @@ use Rattle.std.proofs.lemmas.Fmt.{decimal_by_steps, digits_decimal, IsAscii-from
 use Rattle.std.proofs.lemmas.Str.Parse.{numerals_by_value, tells_digits}
 use Rattle.std.proofs.lemmas.Bool.{le-ltb}
 use Rattle.std.proofs.Math.Nat.{mod-lt}
+use Rattle.patr_lists.proofs.Alls.{all_append, all_weaker}
 use Rattle.patr_model.specs.declared.field.Marker.{Marker}
 use Rattle.patr_model.specs.declared.field.Marker.TheVariants as marker
 use Rattle.patr_model.specs.Session.{is_blank, Cut, pieces, without_empty, words_of}
@@ -19,7 +20,6 @@ use Rattle.patr_model.specs.LexiconLines.{line_at, numbered as numbered_lines, b
 use Rattle.patr_model.specs.LexiconText as lexicon
 use Rattle.patr_model.specs.LexiconText.{trimmed_front, trimmed, spaced, field_text, Record, Records, is_known, field_before, records_of, EntryText, EntryFault, one_word, entry, entries, read_records, read_fields, of_result, unless_bad, reading}
 use Rattle.patr_model.specs.Build.{in_lexicon, entries_fault, build_fault}
-use Rattle.patr_model.proofs.Members.{all_append, all_weaker}
 use Rattle.patr_model.proofs.PlainWords.{Misses, whole_cut, front_cut, IsPlain, plain_all, plain_no_line, plain_no_blank, word_trimmed, control_none}
 use Rattle.patr_consequences.specs.Generator as generator
 use Rattle.patr_consequences.specs.Generator.{generated_grammar, generated_entries, generated_sentence, numbered, grammar_text, entry_text, lexicon_text, sentence_text, GeneratedTextsAreRead}

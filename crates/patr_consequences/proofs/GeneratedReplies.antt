@@ -3,8 +3,9 @@ use Rattle.std.proofs.Common.{cond, not, ◌&&◌, nat_eq, ◌^◌, ne_eqb, flat
 use Rattle.std.proofs.lemmas.Bool.{lt-ltb}
 use Rattle.std.specs.Fmt.{digits}
 use Rattle.std.specs.List.{AllByRecursion}
+use Rattle.patr_lists.proofs.Alls.{all_in}
+use Rattle.patr_lists.specs.Members.{IsIn}
 use Rattle.patr_model.specs.Derivation.{Rules, Derivation, entry_variant, key}
-use Rattle.patr_model.specs.Chart.{IsIn}
 use Rattle.patr_model.specs.Solved.{solved}
 use Rattle.patr_model.specs.Session.{Numbering, Grounds, State, look_of, line, IsKnown, number_before, numbers, Rises, AreAnalyses, ListsAnalyses, CountsEdges, ListsAll, IsSentenceReply, too_long, unknown, too_many, analyses}
 use Rattle.patr_model.specs.Text.{tree_text, open_tree, entry_category, entry_word, printed, is_bare, goes_on, begins_with_greater, escaped}
@@ -14,7 +15,7 @@ use Rattle.patr_totality.specs.Laws.{AreReady}
 use Rattle.patr_totality.proofs.Ready.{builds_are_ready}
 use Rattle.patr_totality.proofs.Analyses.{sentence_reply}
 use Rattle.patr_model.proofs.Maps.{some_inj}
-use Rattle.patr_model.proofs.Replies.{not_before_itself, member_of}
+use Rattle.patr_model.proofs.Replies.{not_before_itself}
 use Rattle.patr_consequences.specs.Edges.{leaf, rule, tree}
 use Rattle.patr_consequences.proofs.GeneratedReading.{IsDigit, all_digits}
 use Rattle.patr_consequences.specs.Generator as generator
@@ -96,7 +97,7 @@ module _ (N : Numbering) (n : ℕ) (some : 0 < n) (small : n < 2 ^ 64) (st : Sta
   ws = generated_words N numbered n
 
   one : (ts : List Derivation) → AreAnalyses solved s' ws ts → ts ≡ tree (n - 1) 0 ∷ []
-  one ts a = only_one (tree (n - 1) 0) ts (a.every (tree (n - 1) 0) g.one_analysis.0) (λ u h. g.one_analysis.1 u (member_of _ ts u a.each h)) a.rises
+  one ts a = only_one (tree (n - 1) 0) ts (a.every (tree (n - 1) 0) g.one_analysis.0) (λ u h. g.one_analysis.1 u (all_in _ ts u a.each h)) a.rises
 
   known : (i : ℕ) (w : List ℕ) → slice_get (generated_sentence numbered n) i ≡ Some w → IsKnown s' w
   known i w h =

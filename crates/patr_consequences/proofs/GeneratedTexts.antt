@@ -4,15 +4,16 @@ use Rattle.std.proofs.lemmas.Fmt.{decimal_injective}
 use Rattle.std.proofs.lemmas.Nat.{mul-le}
 use Rattle.std.proofs.Math.Nat.{div-le_self}
 use Rattle.std.specs.List.{AllByRecursion}
+use Rattle.patr_lists.proofs.Alls.{all_in, all_each}
+use Rattle.patr_lists.proofs.Members.{no_longer}
+use Rattle.patr_lists.specs.Members.{IsIn}
 use Rattle.patr_model.specs.Derivation.{Rules, Derivation, start, end, IsComplete}
-use Rattle.patr_model.specs.Chart.{InChart, IsIn, IsChart}
+use Rattle.patr_model.specs.Chart.{InChart, IsChart}
 use Rattle.patr_model.specs.Solved.{solved}
 use Rattle.patr_model.specs.Plain.{category_of}
 use Rattle.patr_model.specs.Builds.{AreBuilt}
 use Rattle.patr_model.proofs.Maps.{some_inj}
-use Rattle.patr_model.proofs.Counting.{no_more}
-use Rattle.patr_model.proofs.Replies.{member_of}
-use Rattle.patr_model.proofs.Rounds.{all_edges, rounds}
+use Rattle.patr_model.proofs.Rounds.{rounds}
 use Rattle.patr_model.proofs.Steps.{partial_or_complete}
 use Rattle.patr_model.proofs.StatedCategories.{are_built}
 use Rattle.patr_model.proofs.Wholes.{solved_go_by_category}
@@ -22,7 +23,7 @@ use Rattle.patr_model.specs.Session.{Numbering}
 use Rattle.patr_model.specs.Build.{keys_of, rule_of, entry_variants}
 use Rattle.patr_consequences.specs.Generator as generator
 use Rattle.patr_consequences.specs.Generator.{generated_rules, generated_words, generated_entries, AreDifferent, numbered, edge_count, IsCounted, IsOnlyAnalysis, ChartsOfWordsAreCounted, GeneratedChartsAreCounted}
-use Rattle.patr_consequences.specs.Edges.{rule as B, active as A, tree as T, all_edges as edges}
+use Rattle.patr_consequences.specs.Edges.{rule as B, active as A, tree as T, all_each as edges}
 use Rattle.patr_consequences.proofs.Generated.{Symbols, AreApart, more_rule, last_rule, entry_of, generated, entries_from, words_from, words_length, whole_complete, last_partial, more_partial, after_partial}
 use Rattle.patr_consequences.proofs.GeneratedCharts.{Shape, word, more, last, behind, whole, whole_start, whole_end, made, shape_in, in_shape, whole_category, word_category}
 use Rattle.patr_consequences.proofs.GeneratedCounts.{edges_once, edges_length, shape_listed, listed_shape, shape_size}
@@ -116,7 +117,7 @@ module _ (s : Symbols) (apart : AreApart s) (n : ℕ) (words : (i j : ℕ) → i
   Edge = InChart (solved g s.cat) g ws
 
   all : AllByRecursion Edge (edges n)
-  all = all_edges Edge (edges n) (λ t h. shape_in s apart n words built t (listed_shape n t h))
+  all = all_each Edge (edges n) (λ t h. shape_in s apart n words built t (listed_shape n t h))
 
   every : (t : Derivation) → Edge t → IsIn (edges n) t
   every t h = shape_listed n t (in_shape s apart n words built t h)
@@ -129,8 +130,8 @@ module _ (s : Symbols) (apart : AreApart s) (n : ℕ) (words : (i j : ℕ) → i
     chart = chart;
     count = edges_length n;
     each_chart = λ ts c.
-        let le = no_more ts (edges n) c.once (λ t h. every t (member_of Edge ts t c.edges h)) in
-        let ge = no_more (edges n) ts (edges_once n) (λ t h. c.every t (member_of Edge (edges n) t all h)) in
+        let le = no_longer ts (edges n) c.once (λ t h. every t (all_in Edge ts t c.edges h)) in
+        let ge = no_longer (edges n) ts (edges_once n) (λ t h. c.every t (all_in Edge (edges n) t all h)) in
         let same : length ts ≡ length (edges n) = omega (arith, le, ge) in
         same ∙ edges_length n;
     passes = λ limit h. inl (edges n, edges_once n, all, omega (arith, h, edges_length n));

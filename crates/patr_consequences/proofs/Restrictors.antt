@@ -3,6 +3,8 @@ use Rattle.std.proofs.Common.{◌≡◌, inl, inr, ℕ, suc, Bool, true, false, 
 use Rattle.std.proofs.lemmas.Option.{slice_get-map}
 use Rattle.std.specs.Option.{option_map}
 use Rattle.std.specs.List.{AllByRecursion}
+use Rattle.patr_lists.proofs.Members.{no_longer}
+use Rattle.patr_lists.proofs.Alls.{all_at, all_in}
 use Rattle.patr_model.specs.Structure.{Value, Atom, Structure}
 use Rattle.patr_model.specs.Category.{atom_at, category, AreCompatible}
 use Rattle.patr_model.specs.Derivation.{Rules, Derivation, Leaf, Begin, Extend, entry_variant, rule_variant, root_rule, IsPartial, IsComplete}
@@ -11,12 +13,10 @@ use Rattle.patr_model.specs.Solved.{MayFollow, HasStart, solved}
 use Rattle.patr_model.specs.Chart.{InChart, IsDerivation, IsAnalysis}
 use Rattle.patr_model.specs.Session.{Grounds, State, cat_of, look_of, line, IsKnown, AreAnalyses, ListsAnalyses, CountsEdges, ListsAll, IsSentenceReply, too_long, unknown, too_many, analyses}
 use Rattle.patr_model.specs.Text.{printed, entry_category, entry_word, mother_category, open_tree, tree_text}
-use Rattle.patr_model.proofs.Members.{all_at}
 use Rattle.patr_model.proofs.Maps.{some_inj}
 use Rattle.patr_model.proofs.Total.{map_some}
-use Rattle.patr_model.proofs.Counting.{no_more}
 use Rattle.patr_model.proofs.Canonical.{least_texts}
-use Rattle.patr_model.proofs.Replies.{member_of, one_reply}
+use Rattle.patr_model.proofs.Replies.{one_reply}
 use Rattle.patr_model.proofs.StatedCategories.{are_built}
 use Rattle.patr_model.specs.Build.{keys_of, grounds}
 use Rattle.patr_totality.proofs.Ready.{builds_are_ready}
@@ -240,7 +240,7 @@ module _ (g h : Rules) (same : SameButRestrictor g h) (among : AreAmong g.restri
 pub no_other_edges : LongerRestrictorsGiveNoOtherEdges
 no_other_edges g h cat same among ws = record {
   edges = edge_same g h same among cat ws;
-  count = λ ts us c d. no_more us ts d.once (λ t i. c.every t (edge_same g h same among cat ws t (member_of (InChart (solved h cat) h ws) us t d.edges i)));
+  count = λ ts us c d. no_longer us ts d.once (λ t i. c.every t (edge_same g h same among cat ws t (all_in (InChart (solved h cat) h ws) us t d.edges i)));
   limit = λ n m. elim m [
     | inl m ↦ inl (m.0, m.1, all_edges_same g h same among cat ws m.0 m.2, m.3)
     | inr m ↦ inr (m.0, edge_same g h same among cat ws m.0 m.1, m.2)

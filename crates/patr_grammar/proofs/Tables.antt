@@ -1,5 +1,6 @@
 -- Tables of texts that grow.
-use Rattle.std.proofs.Common.{◌≡◌, ℕ, zero, suc, arith, Bool, true, false, cond, List, [], ◌∷◌, ◌++◌, length, slice_get, Some, refl, sym, ap, ◌∙◌, subst, append_assoc, append-nil}
+use Rattle.std.proofs.Common.{◌≡◌, ℕ, Bool, true, false, cond, List, [], ◌∷◌, ◌++◌, slice_get, Some, refl, sym, ap, ◌∙◌, subst, append_assoc, append-nil}
+use Rattle.patr_lists.proofs.Places.{get_left}
 use Rattle.patr_model.specs.Renaming.{Each}
 use Rattle.patr_model.specs.Tokens.{Token}
 use Rattle.patr_text.specs.Texts.{holds, with_text, Extends}
@@ -15,11 +16,6 @@ extends_with texts t = extends_by (holds texts t) texts t
 
 pub extends_trans : (a b c : List (List ℕ)) → Extends a b → Extends b c → Extends a c
 extends_trans a b c p q = (p.0 ++ q.0, q.1 ∙ ap (λ (u : List (List ℕ)). u ++ q.0) p.1 ∙ append_assoc a p.0 q.0)
-
-at_front : (xs ys : List (List ℕ)) (i : ℕ) (t : List ℕ) → slice_get xs i ≡ Some t → slice_get (xs ++ ys) i ≡ Some t
-at_front [] ys i t h = absurd cc
-at_front (x ∷ xs) ys zero t h = h
-at_front (x ∷ xs) ys (suc i) t h = at_front xs ys i t h
 
 -- ---- lists whose members belong together
 
@@ -38,16 +34,10 @@ each_still R S f (a ∷ xs) (b ∷ ys) h = (f a b h.0, each_still R S f xs ys h.
 -- ---- what holds by a table holds by one that extends it
 
 pub text_still : (old new : List (List ℕ)) → Extends old new → (i : ℕ) (t : List ℕ) → slice_get old i ≡ Some t → slice_get new i ≡ Some t
-text_still old new e i t is = subst (λ (u : List (List ℕ)). slice_get u i ≡ Some t) (sym e.1) (at_front old e.0 i t is)
+text_still old new e i t is = subst (λ (u : List (List ℕ)). slice_get u i ≡ Some t) (sym e.1) (get_left old e.0 i t is)
 
 pub lexeme_still : (old new : List (List ℕ)) → Extends old new → (l : Lexeme) (t : Token) → IsLexeme old l t → IsLexeme new l t
 lexeme_still old new e l t h = record { kind = h.kind; key = h.key; word = text_still old new e l.word.0 _ h.word; category = text_still old new e l.category.0 _ h.category; place = h.place }
 
 pub lexemes_still : (old new : List (List ℕ)) → Extends old new → (ls : List Lexeme) (ts : List Token) → Each (IsLexeme old) ls ts → Each (IsLexeme new) ls ts
 lexemes_still old new e = each_still (IsLexeme old) (IsLexeme new) (lexeme_still old new e)
-
-pub each_length : {X Y : Type 0} (R : X → Y → Type 0) (xs : List X) (ys : List Y) → Each R xs ys → length xs ≡ length ys
-each_length R [] [] h = refl
-each_length R [] (b ∷ ys) h = absurd h
-each_length R (a ∷ xs) [] h = absurd h
-each_length R (a ∷ xs) (b ∷ ys) h = omega (arith, each_length R xs ys h.1)

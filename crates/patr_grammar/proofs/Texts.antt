@@ -1,10 +1,11 @@
 -- Words of the notation, and indices.
-use Rattle.std.proofs.Common.{◌≡◌, ℕ, zero, suc, ◌+◌, ◌-◌, ◌<◌, Bool, true, false, cond, ◌&&◌, List, [], ◌∷◌, ◌++◌, length, map, take, drop, nat_eq, IsTrue, ◌↔◌, refl, sym, ap, ◌∙◌, arith, add-one, length-drop}
+use Rattle.std.proofs.Common.{◌≡◌, ℕ, zero, suc, ◌+◌, ◌-◌, ◌<◌, Bool, true, false, cond, ◌&&◌, List, [], ◌∷◌, ◌++◌, length, map, take, drop, IsTrue, ◌↔◌, refl, sym, ap, ◌∙◌, arith, add-one}
 use Rattle.std.proofs.lemmas.Bool.{false≢true}
-use Rattle.std.proofs.lemmas.List.{take_all}
+use Rattle.std.proofs.lemmas.List.{take_rest}
 use Rattle.std.specs.Char.{to_ascii_lowercase, is_ascii_digit}
 use Rattle.std.specs.List.{list_all}
 use Rattle.std.proofs.lemmas.Bool.Decides.{nat_tests}
+use Rattle.patr_model.proofs.Canonical.{same_true, same_is}
 use Rattle.patr_model.specs.Bytes.{same_text}
 use Rattle.patr_model.specs.Lexemes.{lower, is_keyword, all_digits, is_index, after_first, without_index}
 
@@ -15,20 +16,9 @@ pub lower_all : (bs : List ℕ) → map to_ascii_lowercase bs ≡ map lower bs
 lower_all [] = refl
 lower_all (b ∷ bs) = ap (λ c. c ∷ map to_ascii_lowercase bs) (lower_is b) ∙ ap (λ cs. lower b ∷ cs) (lower_all bs)
 
--- texts that are the same are equal
-pub same_is : (xs ys : List ℕ) → same_text xs ys ≡ true → xs ≡ ys
-same_is [] [] h = refl
-same_is [] (y ∷ ys) h = absurd cc
-same_is (x ∷ xs) [] h = absurd cc
-same_is (x ∷ xs) (y ∷ ys) h = let p : (nat_eq x y ≡ true) × (same_text xs ys ≡ true) = grind (arith, nat_tests) in let e = same_is xs ys p.1 in let f : x ≡ y = grind (arith, nat_tests) in cc
-
-pub same_self : (xs : List ℕ) → same_text xs xs ≡ true
-same_self [] = refl
-same_self (x ∷ xs) = grind (arith, nat_tests, same_self xs)
-
 -- a test that tells whether two texts are equal
 pub same_by : (r : Bool) (xs ys : List ℕ) → (IsTrue r ↔ (xs ≡ ys)) → r ≡ same_text xs ys
-same_by true xs ys h = sym (ap (same_text xs) (sym (h.0 refl)) ∙ same_self xs)
+same_by true xs ys h = sym (ap (same_text xs) (sym (h.0 refl)) ∙ same_true xs)
 same_by false xs ys h = not_same (same_text xs ys) (λ e. absurd (false≢true (h.1 (same_is xs ys e))))
   where
     not_same : (b : Bool) → (b ≡ true → ⊥) → false ≡ b
@@ -58,13 +48,9 @@ walk_by [] n lt h = absurd (omega arith)
 walk_by (b ∷ bs) zero lt h = sym (no_index_yet b bs h)
 walk_by (b ∷ bs) (suc n) lt h = ap (λ us. b ∷ us) (walk_by bs n (omega arith) h)
 
--- the code's slice from n on
-pub rest_slice : {X : Type 0} (xs : List X) (n : ℕ) → take (length xs - n) (drop n xs) ≡ drop n xs
-rest_slice xs n = take_all _ _ (omega (arith, length-drop n xs))
-
 -- the walk goes on by one place
 pub walk_goes_on : (bs whole : List ℕ) (n : ℕ) → n < length bs → is_index (take (length bs - n) (drop n bs)) ≡ false → take n bs ++ after_first (drop n bs) ≡ whole → take (n + 1) bs ++ after_first (drop (n + 1) bs) ≡ whole
-walk_goes_on bs whole n lt h e = rw add-one (walk_by bs n lt (ap is_index (sym (rest_slice bs n)) ∙ h) ∙ e)
+walk_goes_on bs whole n lt h e = rw add-one (walk_by bs n lt (ap is_index (sym (take_rest bs n)) ∙ h) ∙ e)
 
 -- ---- a text without its index
 

@@ -2,6 +2,7 @@
 use Rattle.std.proofs.Common.{◌≡◌, inl, ℕ, ◌<◌, Bool, true, false, true≢false, cond, nat_eq, eqb-true, List, [], ◌∷◌, append-nil, map, length, codes, Option, Some, None, refl, sym, ap, ◌∙◌, subst, arith}
 use Rattle.std.specs.List.{AllByRecursion}
 use Rattle.std.proofs.lemmas.List.{length-map}
+use Rattle.patr_lists.proofs.Alls.{all_map, all_flat}
 use Rattle.patr_model.specs.Bytes.{same_text}
 use Rattle.patr_model.specs.Structure.{HasDistinct, Atom}
 use Rattle.patr_model.specs.Derivation.{RuleVariant, EntryVariant}
@@ -13,7 +14,6 @@ use Rattle.patr_model.specs.LexiconText.{EntryOf}
 use Rattle.patr_model.specs.Build.{Keys, mapped, equation_of, rule_of, feature_variants, gloss_fact, facts_of, entry_variant_of, entry_variants, build}
 use Rattle.patr_laws.specs.Bare.{AreDistinct, HasNoEquations, BuildsAreBare}
 use Rattle.patr_model.proofs.Canonical.{same_true}
-use Rattle.patr_model.proofs.Members.{all_map, all_flat}
 use Rattle.patr_model.proofs.StatedCategories.{categories_are_bare, everything, every_rule, every_entry}
 
 -- a row of nothing has one variant, which is empty

@@ -1,5 +1,6 @@
 -- Without written equations, the replies by categories alone and by solutions are the same.
 use Rattle.std.proofs.Common.{◌≡◌, inl, inr, ℕ, suc, Bool, true, false, List, [], ◌∷◌, map, Option, Some, None, MatchBool, ap}
+use Rattle.patr_lists.proofs.Alls.{all_weaker}
 use Rattle.patr_model.specs.Derivation.{Rules, Derivation}
 use Rattle.patr_model.specs.Chart.{Judgement, InChart, IsChart, HasMoreThan, IsAnalysis}
 use Rattle.patr_model.specs.Plain.{plain, IsBare}
@@ -7,7 +8,6 @@ use Rattle.patr_model.specs.Solved.{solved}
 use Rattle.patr_model.specs.Session.{Grounds, State, cat_of, Judge, LineForms, Command, Limit, Features, Count, Show, Grammar, Make, Quit, begins_with_colon, words_of, AreAnalyses, ListsAnalyses, CountsEdges, IsSentenceReply, too_long, unknown, too_many, analyses, IsColonReply, IsWordsReply, IsLineReply, not_text, spelled, Replied}
 use Rattle.patr_model.specs.Notations.{lines_with_commands}
 use Rattle.patr_model.specs.Build.{keys_of}
-use Rattle.patr_model.proofs.Members.{all_weaker}
 use Rattle.patr_model.proofs.PlainSolved.{bare_has, bare_chains, plain_is_solvable, solvable_is_plain}
 use Rattle.patr_model.proofs.Wholes.{solved_go_by_category}
 use Rattle.patr_totality.specs.Laws.{HasLeast}

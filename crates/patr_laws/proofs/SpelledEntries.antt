@@ -1,6 +1,7 @@
 -- Lines of words and their categories are read as these entries.
 use Rattle.std.proofs.Common.{◌≡◌, ℕ, suc, Bool, true, false, cond, nat_eq, List, [], ◌∷◌, ◌++◌, None, Result, Ok, refl, ap, ◌∙◌, append_assoc}
 use Rattle.std.specs.List.{flat_map, filter}
+use Rattle.patr_lists.proofs.Alls.{all_weaker}
 use Rattle.patr_model.specs.declared.field.Marker.{Marker}
 use Rattle.patr_model.specs.declared.field.Marker.TheVariants as marker
 use Rattle.patr_model.specs.Grammar.{Row, Done}
@@ -13,7 +14,6 @@ use Rattle.patr_model.specs.Productions.{FeatureText, elements}
 use Rattle.patr_model.specs.LexiconLines.{line_at, numbered, behind, control, or_later, bad_token, Field, Fields, fields_of}
 use Rattle.patr_model.specs.LexiconText as lexicon
 use Rattle.patr_model.specs.LexiconText.{trimmed_front, trimmed, spaced, field_text, Record, Records, is_known, field_before, records_of, EntryText, EntryFault, one_word, one_category, as_features, features_of, entry, entries, read_records, read_fields, of_result, unless_bad, reading}
-use Rattle.patr_model.proofs.Members.{all_weaker}
 use Rattle.patr_model.proofs.PlainWords.{IsPlain, plain_all, plain_no_line, plain_no_blank, front_cut, whole_cut, word_trimmed, control_none}
 use Rattle.patr_laws.specs.Spelling.{PlainEntry, field_line, entry_lines, entries_from, EntriesAreSpelled}
 

@@ -1,7 +1,8 @@
 -- The closed chart by licensed lists.
 use Rattle.std.specs.Prelude.{ℕ, List}
+use Rattle.patr_lists.specs.Members.{IsIn}
 use Rattle.patr_model.specs.Derivation.{Rules, Derivation}
-use Rattle.patr_model.specs.Chart.{Judgement, InChart, IsIn, IsLicensed}
+use Rattle.patr_model.specs.Chart.{Judgement, InChart, IsLicensed}
 use Rattle.patr_model.specs.Plain.{plain}
 use Rattle.patr_model.specs.Solved.{solved}
 

@@ -2,8 +2,8 @@
 use Rattle.std.specs.Prelude.{◌≡◌, ℕ, Bool, nat_eq, List, []}
 use Rattle.std.specs.Option.{option_map_or}
 use Rattle.std.proofs.Common.{Vec, Global}
+use Rattle.patr_lists.specs.Numbers.{places}
 use Rattle.indexmap.specs.IndexMap.{IndexMap, get}
-use Rattle.patr_model.specs.Numbered.{places}
 use Rattle.patr_lexicon.specs.declared.lexicon.Entry.{Entry}
 
 -- the entry is one of this word

@@ -1,6 +1,6 @@
 //! What the bytes of a lexicon stand for: entries with an index by word; or why it is refused.
 ghost use Rattle.std.specs.Prelude.{◌≡◌, ◌^◌, ◌<◌, length, IfOk};
-ghost use Rattle.patr_model.specs.Numbered.{places};
+ghost use Rattle.patr_lists.specs.Numbers.{places};
 ghost use Rattle.patr_lexicon.specs.Entries.{is_of};
 
 use crate::listing::{list_of, numbers_by_word};

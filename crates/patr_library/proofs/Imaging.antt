@@ -1,6 +1,7 @@
 -- Copies of the first places of a structure.
 use Rattle.std.proofs.Common.{◌≡◌, ◌⊎◌, inl, inr, ℕ, zero, suc, ◌+◌, ◌<◌, List, [], ◌∷◌, ◌++◌, length, length-append, map, get_or, take, Option, Some, None, slice_get, refl, sym, ap, ◌∙◌, arith, subst}
 use Rattle.std.proofs.lemmas.List.{map-append, get_or_append_left, take_more}
+use Rattle.patr_lists.proofs.Places.{get_last}
 use Rattle.patr_model.specs.Structure.{Value, Atom, Node, Arc, Arcs, Structure, arcs_of}
 use Rattle.patr_model.specs.Subsumption.{Same}
 use Rattle.patr_model.proofs.Maps.{some_inj}
@@ -82,10 +83,6 @@ get_kept : (xs : List ℕ) (x k n : ℕ) → slice_get xs k ≡ Some n → slice
 get_kept [] x k n h = cc
 get_kept (y ∷ xs) x zero n h = h
 get_kept (y ∷ xs) x (suc k) n h = get_kept xs x k n h
-
-get_last : (xs : List ℕ) (x : ℕ) → slice_get (xs ++ x ∷ []) (length xs) ≡ Some x
-get_last [] x = refl
-get_last (y ∷ xs) x = get_last xs x
 
 node_last : (nodes : List (List Feature)) (fs : List Feature) → get_or (nodes ++ fs ∷ []) (length nodes) [] ≡ fs
 node_last [] fs = refl

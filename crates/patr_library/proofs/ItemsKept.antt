@@ -1,16 +1,18 @@
 -- The least value of a block where the block stands in an arena, and what is reached from it.
-use Rattle.std.proofs.Common.{◌≡◌, inl, inr, ℕ, zero, suc, ◌+◌, ◌<◌, ◌≤◌, Bool, true, false, cond, nat_eq, eqb-true, eq-eqb, List, [], ◌∷◌, length, length-append, get_or, Some, refl, sym, ap, ◌∙◌, arith, subst}
+use Rattle.std.proofs.Common.{◌≡◌, inl, inr, ℕ, zero, suc, ◌+◌, ◌<◌, ◌≤◌, Bool, true, false, cond, nat_eq, List, [], ◌∷◌, length, length-append, get_or, Some, refl, sym, ap, ◌∙◌, arith, subst}
 use Rattle.std.specs.List.{sum_by}
 use Rattle.std.proofs.lemmas.List.{length-map, get_or-append-add}
 use Rattle.std.proofs.lemmas.List.Sums.{sum_by-cons}
+use Rattle.patr_lists.proofs.Totals.{total_room}
+use Rattle.patr_lists.proofs.Members.{no_longer}
+use Rattle.patr_lists.specs.Members.{IsIn}
+use Rattle.patr_lists.specs.Numbers.{total}
 use Rattle.patr_model.specs.Structure.{Value, Atom, Node, Structure, along, arc, at}
 use Rattle.patr_model.specs.Subsumption.{Same}
 use Rattle.patr_model.specs.Equation.{Equation}
 use Rattle.patr_model.specs.Variants.{variant, RuleAt, IsLeastOf, AreWithin}
 use Rattle.patr_model.proofs.Maps.{some_inj, and_then_some}
-use Rattle.patr_marks.specs.Machine.{IsIn, NoRepeats, own, total}
-use Rattle.patr_marks.proofs.Room.{total_same, total_change}
-use Rattle.patr_marks.proofs.Bounds.{stack_room}
+use Rattle.patr_marks.specs.Machine.{own}
 use Rattle.patr_unify.specs.Deciding.{Counts}
 use Rattle.patr_arena.specs.declared.value.Ref.{Ref}
 use Rattle.patr_arena.specs.declared.value.Ref.TheVariants as ref
@@ -27,49 +29,12 @@ use Rattle.patr_library.proofs.Owned.{held_anywhere}
 use Rattle.patr_library.proofs.Placed.{placed_same, placed_new, placed_longer}
 use Rattle.patr_library.proofs.Steps.{same_least}
 
--- ---- sums over lists without repeats
-
-zeroed : (ℕ → ℕ) → ℕ → ℕ → ℕ
-zeroed f x k = cond (nat_eq k x) 0 (f k)
-
-zeroed_other : (f : ℕ → ℕ) (x k : ℕ) → (k ≡ x → ⊥) → zeroed f x k ≡ f k
-unfolding zeroed
-zeroed_other f x k other = go (nat_eq k x) refl
-  where
-    go : (b : Bool) → nat_eq k x ≡ b → cond b 0 (f k) ≡ f k
-    go true e = absurd (other (eqb-true k x e))
-    go false e = refl
-
-zeroed_same : (f : ℕ → ℕ) (x : ℕ) → zeroed f x x ≡ 0
-unfolding zeroed
-zeroed_same f x = ap (λ b. cond b 0 (f x)) (eq-eqb x x refl)
-
--- a list without repeats weighs no more than one that has all of it
-weighs : (f : ℕ → ℕ) (xs ys : List ℕ) → NoRepeats xs → NoRepeats ys → ((k : ℕ) → IsIn xs k → IsIn ys k) → total f xs ≤ total f ys
-weighs f [] ys n m h = omega arith
-weighs f (x ∷ xs) ys n m h =
-    let g = zeroed f x in
-    let change : total g ys + f x ≡ total f ys + g x = total_change g f ys x m (h x (inl refl)) (λ k other. zeroed_other f x k other) in
-    let none : g x ≡ 0 = zeroed_same f x in
-    let same : total g xs ≡ total f xs = total_same g f xs (λ k i. zeroed_other f x k (λ e. n.0 (subst (IsIn xs) e i))) in
-    let rest : total g xs ≤ total g ys = weighs g xs ys n.1 m (λ k i. h k (inr i)) in
-    omega (arith, change, none, same, rest)
+-- ---- the numbers of a block's nodes
 
 -- so many numbers, from p on
 range : ℕ → ℕ → List ℕ
 range p zero = []
 range p (suc m) = p ∷ range (suc p) m
-
-range_above : (p m k : ℕ) → IsIn (range p m) k → p ≤ k
-unfolding range
-range_above p zero k h = absurd h
-range_above p (suc m) k (inl e) = omega (arith, e)
-range_above p (suc m) k (inr h) = let r = range_above (suc p) m k h in omega (arith, r)
-
-range_once : (p m : ℕ) → NoRepeats (range p m)
-unfolding range
-range_once p zero = tt
-range_once p (suc m) = (λ h. let r = range_above (suc p) m p h in absurd (omega (arith, r)), range_once (suc p) m)
 
 range_has : (p m i : ℕ) → i < m → IsIn (range p m) (p + i)
 unfolding range
@@ -131,9 +96,9 @@ module _ (S : Structure) (p : ℕ) (nodes : List (List Feature)) (alone : IsOwnB
       let f : ℕ → ℕ = λ k. length (own S k) in
       let members : (k : ℕ) → IsIn c.list k → IsIn (range p m) k =
       λ k i. let r = c.is.reached k i in let s = inside_at r.0 x h (Node k) r.1 in subst (IsIn (range p m)) (sym s.1) (range_has p m s.0 s.2) in
-      let long = stack_room c.list (range p m) c.is.once members in
+      let long = no_longer c.list (range p m) c.is.once members in
       let size = range_long p m in
-      let weight = weighs f c.list (range p m) c.is.once (range_once p m) members in
+      let weight = total_room f c.list (range p m) c.is.once members in
       let whole : total f (range p m) ≡ sum_by length nodes = range_weight f p nodes (λ k h. ap length (placed.each k h) ∙ length-map (get_or nodes k []) (λ g. record { attribute = g.attribute.0; to = shift p g.to })) in
       let count = c.nodes_are in
       let arcs = c.arcs_are in

@@ -10,6 +10,7 @@ use Rattle.patr_expand.specs.Seen.{equations_at, variant_at}
 use Rattle.patr_arena.specs.declared.value.Feature.{Feature}
 use Rattle.patr_arena.specs.declared.value.Addr.{Addr}
 use Rattle.std.specs.List.{AllByRecursion}
+use Rattle.patr_arena.proofs.Showing.{extends_on}
 use Rattle.patr_arena.specs.Shown.{Shown, IsShown, arcs_from}
 use Rattle.patr_arena.specs.Blocks.{Extends, with_block}
 use Rattle.patr_library.specs.declared.item.RuleItem.{RuleItem}
@@ -18,12 +19,6 @@ use Rattle.patr_library.specs.Built.{HasBlock, AreKept, IsDealt, AreDealt, IsRul
 
 extends_self : (v : Shown) → Extends v v
 extends_self v = record { sizes = ([], sym (append-nil v.sizes)); structure = ([], sym (append-nil v.structure)) }
-
-extends_more : (u v w : Shown) → Extends u v → Extends v w → Extends u w
-extends_more u v w e f = record {
-  sizes = (e.sizes.0 ++ f.sizes.0, f.sizes.1 ∙ (ap (λ l. l ++ f.sizes.0) e.sizes.1 ∙ append_assoc u.sizes e.sizes.0 f.sizes.0));
-  structure = (e.structure.0 ++ f.structure.0, f.structure.1 ∙ (ap (λ l. l ++ f.structure.0) e.structure.1 ∙ append_assoc u.structure e.structure.0 f.structure.0));
-}
 
 -- the block that was put behind the others
 pub new_block : (v w : Shown) (nodes : List (List Feature)) (b : ℕ) → IsShown v → w ≡ with_block v nodes → b ≡ length v.sizes → HasBlock w b nodes
@@ -34,7 +29,7 @@ further v w nodes is = subst (Extends v) (sym is) (record { sizes = (length node
 
 -- it stays where more stands behind it
 pub block_still : (v w : Shown) (b : ℕ) (nodes : List (List Feature)) → Extends v w → HasBlock v b nodes → HasBlock w b nodes
-block_still v w b nodes e h = record { before = h.before; shown = h.shown; number = h.number; extends = extends_more (with_block h.before nodes) v w h.extends e }
+block_still v w b nodes e h = record { before = h.before; shown = h.shown; number = h.number; extends = extends_on (with_block h.before nodes) v w h.extends e }
 
 pub rule_still : (v w : Shown) → Extends v w → (d : Numbered) (i : RuleItem) → HasRuleItem v d i → HasRuleItem w d i
 rule_still v w e d i s = record {
@@ -125,7 +120,7 @@ module _ {D I : Type 0} (good : Shown → D → I → Type 0) (bad : D → Type 
         (subst (λ is. AreKept (good w) bad ((done ++ ds) ++ d ∷ []) is) (sym h.1) (kept_bad (good w) bad (done ++ ds) mid d (a.kept done k) h.2)));
   }
   one_dealt still v w u ds d old mid new a (inr h) = record {
-    extends = extends_more v w u a.extends (further w u h.0 h.1);
+    extends = extends_on v w u a.extends (further w u h.0 h.1);
     blocks = omega (arith, a.blocks, ap length h.3, length-append mid (h.2 ∷ []), ap (λ (x : Shown). length x.sizes) h.1, length-append w.sizes (length h.0 ∷ []));
     kept = λ done k.
         subst (λ l. AreKept (good u) bad l new) (append_assoc done ds (d ∷ []))
@@ -136,7 +131,7 @@ module _ {D I : Type 0} (good : Shown → D → I → Type 0) (bad : D → Type 
   -- and all of them
   pub both_dealt : (v w u : Shown) (ds es : List D) (old mid new : List I) → AreDealt good bad v w ds old mid → AreDealt good bad w u es mid new → AreDealt good bad v u (ds ++ es) old new
   both_dealt v w u ds es old mid new d e = record {
-    extends = extends_more v w u d.extends e.extends;
+    extends = extends_on v w u d.extends e.extends;
     blocks = omega (arith, d.blocks, e.blocks);
     kept = λ done a. subst (λ l. AreKept (good u) bad l new) (append_assoc done ds es) (e.kept (done ++ ds) (d.kept done a));
   }

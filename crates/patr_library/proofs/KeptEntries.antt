@@ -108,10 +108,6 @@ among {X = X} P ys zs x all is h = go ys (subst (AllByRecursion P) (sym is) h)
     go [] a = a.0
     go (y ∷ ys) a = go ys a.1
 
-pub nothing_left : {X : Type 0} (xs : List X) → length xs ≡ 0 → xs ≡ []
-nothing_left [] h = refl
-nothing_left (x ∷ xs) h = absurd (omega arith)
-
 numbered_append : {X : Type 0} (n k : ℕ) (xs : List X) (x : X) → numbered_from n k (xs ++ x ∷ []) ≡ numbered_from n k xs ++ (n, k + length xs, x) ∷ []
 numbered_append n k [] x = ap (λ j. (n, j, x) ∷ []) (let e : k ≡ k + 0 = omega arith in e)
 numbered_append n k (y ∷ xs) x =

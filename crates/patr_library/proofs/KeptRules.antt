@@ -48,11 +48,6 @@ each_more f xs i d h =
     ap (all_numbered 0) (ap (map f) (take_more xs i d h) ∙ map-append f (take i xs) (get_or xs i d ∷ []))
     ∙ (all_more 0 (map f (take i xs)) (f (get_or xs i d)) ∙ ap (λ m. all_numbered 0 (map f (take i xs)) ++ numbered_from m 0 (f (get_or xs i d))) (omega (arith, long)))
 
-pub there : {X : Type 0} (xs : List X) (i : ℕ) → i < length xs → (x : X) × (slice_get xs i ≡ Some x)
-there [] i h = absurd (omega (arith, h))
-there (x ∷ xs) zero h = (x, refl)
-there (x ∷ xs) (suc i) h = there xs i (omega (arith, h))
-
 pub none_first : (o : Option SizeFault) → o ≡ None → first_fault o None ≡ None
 none_first None h = refl
 none_first (Some f) h = h
@@ -71,7 +66,7 @@ module _ {X : Type 0} (fault : X → Option SizeFault) (all : List X → Option 
       go None rest k = rest k
       go (Some f) rest k = cc
 
-  -- as far as this one there is none
+  -- as far as this one get_there is none
   pub taken_fault : (xs : List X) (i : ℕ) (x : X) (d : X) → i < length xs → get_or xs i d ≡ x → all (take i xs) ≡ None → fault x ≡ None → all (take (i + 1) xs) ≡ None
   taken_fault xs i x d h e fine here =
       ap all (take_more xs i d h)

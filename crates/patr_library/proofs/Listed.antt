@@ -1,6 +1,8 @@
 -- What lists of kept items have, by what was dealt with.
 use Rattle.std.proofs.Common.{◌≡◌, ◌⊎◌, inl, inr, ℕ, zero, suc, ◌+◌, ◌<◌, List, [], ◌∷◌, ◌++◌, map, Some, slice_get, option_and_then, refl, sym, ap, ◌∙◌, arith, subst}
 use Rattle.std.specs.List.{AllByRecursion}
+use Rattle.patr_lists.proofs.Alls.{all_weaker, all_append}
+use Rattle.patr_lists.proofs.Places.{get_left}
 use Rattle.patr_model.proofs.Maps.{some_inj, and_then_some}
 use Rattle.patr_library.specs.Stored.{Rises}
 use Rattle.patr_library.specs.Built.{AreKept, numbered_from, all_numbered}
@@ -75,19 +77,6 @@ kept_rises good bad at key same (d ∷ ds) (i ∷ is) r k = elim k as (λ _. Ris
 
 -- ---- all numbers
 
-all_both : {X : Type 0} (P : X → Type 0) (xs ys : List X) → AllByRecursion P xs → AllByRecursion P ys → AllByRecursion P (xs ++ ys)
-all_both P [] ys p q = q
-all_both P (x ∷ xs) ys p q = (p.0, all_both P xs ys p.1 q)
-
-all_weaker : {X : Type 0} (P Q : X → Type 0) → ((x : X) → P x → Q x) → (xs : List X) → AllByRecursion P xs → AllByRecursion Q xs
-all_weaker P Q f [] p = tt
-all_weaker P Q f (x ∷ xs) p = (f x p.0, all_weaker P Q f xs p.1)
-
-get_left : {X : Type 0} (xs ys : List X) (n : ℕ) (x : X) → slice_get xs n ≡ Some x → slice_get (xs ++ ys) n ≡ Some x
-get_left [] ys n x h = cc
-get_left (y ∷ xs) ys zero x h = h
-get_left (y ∷ xs) ys (suc n) x h = get_left xs ys n x h
-
 get_right : {X : Type 0} (xs ys : List X) (n : ℕ) (x : X) → slice_get ys n ≡ Some x → (m : ℕ) × (slice_get (xs ++ ys) m ≡ Some x)
 get_right [] ys n x h = (n, h)
 get_right (y ∷ xs) ys n x h = let r = get_right xs ys n x h in (suc r.0, r.1)
@@ -108,7 +97,7 @@ module _ {V : Type 0} where
   unfolding IsMember
   are_members n [] = tt
   are_members n (vs ∷ vss) =
-      all_both (IsMember n (vs ∷ vss)) (numbered_from n 0 vs) (all_numbered (suc n) vss)
+      all_append (IsMember n (vs ∷ vss)) (numbered_from n 0 vs) (all_numbered (suc n) vss)
       (numbered_are n 0 vs (IsMember n (vs ∷ vss)) (λ j x h. (0, omega arith, subst (λ m. slice_get vs m ≡ Some x) (let e : j ≡ 0 + j = omega arith in e) h)))
       (all_weaker (IsMember (suc n) vss) (IsMember n (vs ∷ vss)) (λ d i. (suc i.0, omega (arith, i.1), i.2)) (all_numbered (suc n) vss) (are_members (suc n) vss))
 
@@ -120,7 +109,7 @@ module _ {V : Type 0} where
 
   rises_on : (key : ℕ × ℕ × V → ℕ × ℕ) (xs ys : List (ℕ × ℕ × V)) → RisesBy key xs → RisesBy key ys → AllByRecursion (λ x. AllByRecursion (λ y. Before (key x) (key y)) ys) xs → RisesBy key (xs ++ ys)
   rises_on key [] ys r s h = s
-  rises_on key (x ∷ xs) ys r s h = (all_both (λ y. Before (key x) (key y)) xs ys r.0 h.0, rises_on key xs ys r.1 s h.1)
+  rises_on key (x ∷ xs) ys r s h = (all_append (λ y. Before (key x) (key y)) xs ys r.0 h.0, rises_on key xs ys r.1 s h.1)
 
   one_rises : (n k : ℕ) (vs : List V) → RisesBy (λ d. (d.0, d.1)) (numbered_from n k vs)
   one_rises n k [] = tt

@@ -1,11 +1,12 @@
 -- The least value of two lists of equations, from one of each.
 use Rattle.std.proofs.Common.{◌≡◌, ℕ, suc, ◌+◌, List, [], ◌∷◌, ◌++◌, length, map, take, drop, Some, slice_get, refl, sym, ap, ◌∙◌, arith, subst}
 use Rattle.std.specs.List.{AllByRecursion}
+use Rattle.patr_model.proofs.StatedCategories.{within_append}
+use Rattle.patr_lists.proofs.Alls.{all_append, all_left, all_right}
 use Rattle.patr_model.specs.Structure.{Value, Node, Structure, arc, IsValue, IsStructure}
 use Rattle.patr_model.specs.Subsumption.{MapsInto, TakesBoth, IsUnifier}
 use Rattle.patr_model.specs.Equation.{Equation, Holds}
 use Rattle.patr_model.specs.Variants.{variant, RuleAt, IsLeastOf, AreWithin}
-use Rattle.patr_model.proofs.Members.{all_append, all_left, all_right}
 use Rattle.patr_model.proofs.Maps.{some_inj}
 use Rattle.patr_model.proofs.Variants.{rule_carried}
 use Rattle.patr_arena.specs.declared.value.Ref.TheVariants as ref
@@ -71,11 +72,6 @@ module _ (cs : List ℕ) (es fs : List Equation) where
           least = λ G v s held r. un.least G v (takes G v s held r);
         }
 
--- equations speak of slots that are there where those of both parts do
-within_both : (n : ℕ) (es fs : List Equation) → AreWithin n es → AreWithin n fs → AreWithin n (es ++ fs)
-within_both n [] fs h k = k
-within_both n (e ∷ es) fs h k = (h.0, within_both n es fs h.1 k)
-
 pub within_right : (n : ℕ) (es fs : List Equation) → AreWithin n (es ++ fs) → AreWithin n fs
 within_right n [] fs h = h
 within_right n (e ∷ es) fs h = within_right n es fs h.1
@@ -89,7 +85,7 @@ least_of_both slots es fs left l right r nodes root we wf a b made = record {
       let w : AreWithin (length cs) es = subst (λ n. AreWithin n es) (sym count) we in
       let x : AreWithin (length cs) fs = subst (λ n. AreWithin n fs) (sym count) wf in
       let all = unifier_is_least cs es fs (own_nodes left) (Node l) (own_nodes right) (Node r) (a.least cs count) (b.least cs count) made.whole made.at w x made.unifier in
-      same_least cs (es ++ fs) (within_both (length cs) es fs w x) made.whole made.at (own_nodes nodes) (Node root) (own_structure nodes made.rooted.own) (own_is_value nodes (ref.New root) made.rooted.root) made.same all;
+      same_least cs (es ++ fs) (within_append (length cs) es fs w x) made.whole made.at (own_nodes nodes) (Node root) (own_structure nodes made.rooted.own) (own_is_value nodes (ref.New root) made.rooted.root) made.same all;
 }
 
 pub none_of_both : (slots : ℕ) (es fs : List Equation) (left : List (List Feature)) (l : ℕ) (right : List (List Feature)) (r : ℕ)

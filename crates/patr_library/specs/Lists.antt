@@ -1,16 +1,6 @@
--- Lists of numbers, each found by a key.
-use Rattle.std.specs.Prelude.{ℕ, Bool, nat_eq, List, [], ◌∷◌, ◌++◌, map, set, get_or}
-use Rattle.std.specs.declared.vec.Vec.{Vec}
-use Rattle.std.specs.declared.alloc.Global.{Global}
+-- The keys by which items are found.
+use Rattle.std.specs.Prelude.{ℕ, Bool, nat_eq}
 use Rattle.patr_text.specs.declared.symbols.Id.{Id}
-
--- the lists that vectors of numbers hold
-abbrev pub numbers : List (Vec ℕ Global) → List (List ℕ)
-numbers lists = map (λ v. v.items) lists
-
--- with one more number in the list of this key
-abbrev pub with_number : List (List ℕ) → ℕ → ℕ → List (List ℕ)
-with_number lists key n = set lists key (get_or lists key [] ++ n ∷ [])
 
 -- the symbol has this number
 abbrev pub has_key : ℕ → Id → Bool

@@ -1,15 +1,16 @@
 //! What is built from a grammar and a lexicon.
 ghost use Rattle.std.specs.Prelude.{◌≡◌, IfOk, IfErr};
-ghost use Rattle.patr_model.specs.Numbered.{places};
+ghost use Rattle.patr_lists.specs.Numbers.{places};
 ghost use Rattle.patr_arena.specs.Arenas.{shown_of};
 ghost use Rattle.patr_library.specs.Stored.{IsBuiltFrom, IsRefusedFor, IsStored, is_of_word, is_of_mother};
 
-use crate::index::{index_of, list_of};
+use crate::index::index_of;
 use crate::item::{BuildFault, EntryItem, RuleItem};
 use crate::making::{all_items, mothers, words};
 use patr_arena::PlainArena;
 use patr_grammar::Grammar;
 use patr_lexicon::Lexicon;
+use patr_lists::NumberLists;
 use patr_text::Id;
 use std::alloc::Global;
 use std::marker::Model;
@@ -23,8 +24,8 @@ pub struct Library {
     rules: Vec<RuleItem>,
     entries: Vec<EntryItem>,
     // by the number of a symbol, the items of rules with this mother and those of entries of this word
-    by_mother: Vec<Vec<u32>>,
-    by_word: Vec<Vec<u32>>,
+    by_mother: NumberLists,
+    by_word: NumberLists,
 }
 
 impl Model for Library {
@@ -79,14 +80,14 @@ impl Library {
     pub fn items_of(&self, word: Id) -> &[u32]
         ensures { result.now ≡ places (is_of_word self.now.lexicon word.0) 0 self.now.entries }
     {
-        list_of(&self.by_word, word.0 as usize)
+        self.by_word.list(word.0 as usize)
     }
 
     /// The places in `rules` of the items with this mother, rising.
     pub fn rules_of(&self, mother: Id) -> &[u32]
         ensures { result.now ≡ places (is_of_mother mother.0) 0 self.now.rules }
     {
-        list_of(&self.by_mother, mother.0 as usize)
+        self.by_mother.list(mother.0 as usize)
     }
 
     /// The grammar.

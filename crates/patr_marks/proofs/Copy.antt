@@ -3,13 +3,15 @@ use Rattle.std.proofs.Common.{◌≡◌, ◌≢◌, ℕ, ◌+◌, ◌-◌, ◌<�
 use Rattle.std.proofs.lemmas.Bool.{cases_order, and_parts}
 use Rattle.std.proofs.lemmas.List.{get_or_append_left, get_or_past}
 use Rattle.std.proofs.Math.Seq.{get_or-append_seam}
+use Rattle.patr_lists.proofs.Places.{below_or_behind}
+use Rattle.patr_lists.specs.Members.{IsIn}
 use Rattle.patr_model.specs.Structure.{Value, Atom, Node, Arcs, Structure, along, arcs_of, arc, HasDistinct, IsBelow, IsStructure, IsValue}
-use Rattle.patr_marks.specs.Machine.{Has, has_attribute, own, IsIn}
+use Rattle.patr_marks.specs.Machine.{Has, has_attribute, own}
 use Rattle.patr_marks.specs.Quotient.{Below}
 use Rattle.patr_marks.specs.Sides.{shift, shifted, sides}
 use Rattle.patr_marks.specs.Settled.{Copying, Copy, base, value_eq, through, covered, stays, keeps, put, led_by, keep_end, new_end, Fits, all_arcs, IsCopy}
 use Rattle.patr_marks.proofs.Lists.{has_left, has_cases, attribute_has, has_has_attribute, along_has, distinct_along}
-use Rattle.patr_marks.proofs.Sides.{own_left, own_right, along_shifted, has_shifted, below_or_behind}
+use Rattle.patr_marks.proofs.Sides.{own_left, own_right, along_shifted, has_shifted}
 use Rattle.patr_model.proofs.Maps.{below_more_places, arc_of_longer}
 
 pub value_eq_true : (v w : Value) → value_eq v w ≡ true → v ≡ w
@@ -32,7 +34,7 @@ pub through_put : (j : ℕ) (v : Value) (f : ℕ → Value) (ks : List ℕ) (w :
 through_put j v f ks (Atom c) n h = refl
 through_put j v f ks (Node k) n h = put_in j v f ks k n h
 
-below_more : (j : ℕ) (ks : List ℕ) (v : Value) → Below ks v → Below (j ∷ ks) v
+pub below_more : (j : ℕ) (ks : List ℕ) (v : Value) → Below ks v → Below (j ∷ ks) v
 below_more j ks (Atom c) h = tt
 below_more j ks (Node k) h = inr h
 

@@ -1,13 +1,14 @@
 -- The least value of an entry without lexical rules.
 use Rattle.std.proofs.Common.{◌≡◌, ℕ, List, [], ◌∷◌, length, Some, None, slice_get, refl, sym, ap, ◌∙◌, arith, subst}
 use Rattle.std.specs.List.{AllByRecursion}
+use Rattle.patr_lists.proofs.Places.{get_there}
 use Rattle.patr_model.specs.Structure.{Value, Node, Structure, arc, IsValue, IsStructure}
 use Rattle.patr_model.specs.Equation.{Holds}
 use Rattle.patr_model.specs.Derivation.{Rules, EntryVariant, Leaf, entry_variant}
 use Rattle.patr_model.specs.Solution.{Chain, SolvesEntry, Solution, IsSolvable, IsLeastValue, with_slots, slots_from}
 use Rattle.patr_model.specs.Variants.{variant, RuleAt, IsLeastOf, LeavesAreRules}
 use Rattle.patr_model.proofs.Maps.{some_inj, maps_transitive, maps_reflexive, maps_into_shorter, carries_arc}
-use Rattle.patr_model.proofs.Steps.{arc_value, chain_value, slot_there, slots_structure, slots_has, new_is_value}
+use Rattle.patr_model.proofs.Steps.{arc_value, chain_value, slots_structure, slots_has, new_is_value}
 use Rattle.patr_model.proofs.Variants.{all_longer}
 use Rattle.patr_model.proofs.Chains.{holds_longer}
 
@@ -60,7 +61,7 @@ module _ (g : Rules) (e k i j : ℕ) (entry : EntryVariant) (q : entry_variant g
   solved : (M : Structure) (m : Value) → IsLeastOf (RuleAt (variant (entry.category ∷ []) entry.equations)) M m → (x : Value) × (arc M m 0 ≡ Some x) × IsLeastValue g (Leaf e k i j) M x
   solved M m least =
       let vs = least.holds.0 in
-      let b = slot_there vs 0 (omega (arith, least.holds.1.count)) in
+      let b = get_there vs 0 (omega (arith, least.holds.1.count)) in
       let x = b.0 in
       let there : arc M m 0 ≡ Some x = least.holds.2 0 x b.1 in
       let held : IsValue M x = arc_value M least.structure m 0 x there in

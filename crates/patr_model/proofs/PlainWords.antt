@@ -2,11 +2,11 @@
 use Rattle.std.proofs.Common.{◌≡◌, ℕ, ◌+◌, Bool, true, false, cond, ◌||◌, nat_eq, List, [], ◌∷◌, ◌++◌, reverse, Some, None, refl, ap, ◌∙◌, true≢false}
 use Rattle.std.specs.List.{AllByRecursion}
 use Rattle.std.proofs.lemmas.List.{reverse-reverse}
+use Rattle.patr_lists.proofs.Alls.{all_reverse, all_weaker}
 use Rattle.patr_model.specs.Session.{is_blank, Cut, cut_at, pieces}
 use Rattle.patr_model.specs.Tokens.{Place, is_white, is_control, IsPlainWord}
 use Rattle.patr_model.specs.LexiconLines.{is_edge, control}
 use Rattle.patr_model.specs.LexiconText.{trimmed_front, trimmed}
-use Rattle.patr_model.proofs.Members.{all_weaker, all_reverse}
 use Rattle.patr_model.proofs.Spelling.{turned}
 
 -- no byte passes the test

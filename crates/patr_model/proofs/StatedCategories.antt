@@ -2,6 +2,7 @@
 use Rattle.std.proofs.Common.{◌≡◌, inl, ℕ, zero, suc, ◌+◌, ◌<◌, ◌≤◌, Bool, true, false, cond, nat_eq, List, [], ◌∷◌, ◌++◌, map, filter_map, length, Option, Some, None, option_map, option_and_then, slice_get, Contains, refl, sym, ap, subst, arith}
 use Rattle.std.specs.List.{AllByRecursion, cons_option}
 use Rattle.std.proofs.lemmas.List.{length-map}
+use Rattle.patr_lists.proofs.Alls.{all_at, all_map, all_flat}
 use Rattle.patr_model.specs.Equation.{SlotPath, Term, AtomOf, PathOf, Equation}
 use Rattle.patr_model.specs.Derivation.{RuleVariant, EntryVariant, rule_variant, entry_variant}
 use Rattle.patr_model.specs.Grammar.{Symbol, WrittenPath, WrittenTerm, AtomText, PathText, WrittenEquation, WrittenRule, slot_of, placed_path, placed_term, placed_equation, category_equations, rule_variant_of, single, variants, rule_variants}
@@ -13,7 +14,7 @@ use Rattle.patr_model.specs.Variants.{TermWithin, IsWithin, AreWithin}
 use Rattle.patr_model.specs.Build.{Keys, rule_of, feature_term, feature_variants, facts_of, entry_variant_of, entry_variants, build}
 use Rattle.patr_model.specs.Builds.{AreBuilt}
 use Rattle.patr_model.proofs.Maps.{some_inj, and_then_some}
-use Rattle.patr_model.proofs.Members.{all_at, all_map, all_flat, at_is_member, variants_all}
+use Rattle.patr_model.proofs.Members.{at_is_member, variants_all}
 
 -- ---- slots that are there
 

@@ -1,7 +1,8 @@
 -- Laws of the definitions, each the contract of a function with an empty body.
-use Rattle.std.specs.Prelude.{length, ◌+◌, is_some, cond, flat_map, None, ◌≤◌, ◌<◌, ◌^◌, true, false, ◌||◌, nat_eq, decimal, Ok, slice_get, Contains, Bool, [], ◌∷◌, suc, ◌≡◌, ℕ, List, ◌++◌, Option, Some, None}
+use Rattle.std.specs.Prelude.{length, ◌+◌, is_some, cond, flat_map, None, ◌≤◌, ◌<◌, ◌^◌, true, false, ◌||◌, nat_eq, decimal, Ok, slice_get, Contains, Bool, [], ◌∷◌, suc, ◌≡◌, ℕ, List, ◌++◌, Option, Some}
 use Rattle.std.specs.List.{AllByRecursion}
-use Rattle.patr_model.specs.Chart.{Judgement, InChart, IsDerivation, IsIn, EachOnce}
+use Rattle.patr_lists.specs.Members.{NoRepeats, IsIn}
+use Rattle.patr_model.specs.Chart.{Judgement, InChart, IsDerivation}
 use Rattle.patr_model.specs.Plain.{plain, IsPlain, IsBare}
 use Rattle.patr_model.specs.Solved.{solved}
 use Rattle.patr_model.specs.Settled.{SideNode, Target, Marks, Images, IsSettled, IsClosed, IsFollowed}
@@ -63,7 +64,7 @@ pub record HaveLeastValues (g : Rules) (cat : ℕ) (ws : List ℕ) : Type 0 wher
 
 -- different edges of a list that has them all are no more than it
 abbrev pub NoMoreThanAll : Type 0
-NoMoreThanAll = (ts us : List Derivation) → EachOnce ts → ((t : Derivation) → IsIn ts t → IsIn us t) → length ts ≤ length us
+NoMoreThanAll = (ts us : List Derivation) → NoRepeats ts → ((t : Derivation) → IsIn ts t → IsIn us t) → length ts ≤ length us
 
 -- what is the same as a unifier is one
 abbrev pub SameAsUnifier : Type 0

@@ -27,7 +27,6 @@ pub mod CommandLine
 pub mod Build
 pub mod Built
 pub mod Notations
-pub mod Numbered
 pub mod Reading
 pub mod Stack
 pub mod Pairs

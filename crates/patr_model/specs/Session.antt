@@ -2,11 +2,12 @@
 use Rattle.std.specs.Prelude.{◌≡◌, ◌⊎◌, ℕ, suc, ◌+◌, ◌*◌, ◌-◌, ◌<◌, ◌≤◌, List, [], ◌∷◌, ◌++◌, map, length, Bool, true, false, cond, ◌&&◌, ◌||◌, nat_eq, nat_le, Option, Some, None, MatchBool, slice_get, decimal, codes, IsUtf8}
 use Rattle.std.specs.List.{AllByRecursion}
 use Rattle.std.specs.Option.{option_map}
+use Rattle.patr_lists.specs.Members.{IsIn}
 use Rattle.patr_model.specs.Bytes.{is_digit, same_text}
 use Rattle.patr_model.specs.Structure.{Value, Structure}
 use Rattle.patr_model.specs.Derivation.{Rules, EntryVariant, Derivation, KeyItem, entry_variant, key}
 use Rattle.patr_model.specs.Solution.{IsLeastValue}
-use Rattle.patr_model.specs.Chart.{Judgement, IsIn, IsChart, HasMoreThan, IsAnalysis}
+use Rattle.patr_model.specs.Chart.{Judgement, IsChart, HasMoreThan, IsAnalysis}
 use Rattle.patr_model.specs.Text.{Look, canonical, tree_text}
 
 -- the symbols as numbers: each text has a number, which has that text

@@ -1,6 +1,8 @@
 -- What is promised of edges stays true where more nodes and more edges come.
-use Rattle.std.proofs.Common.{◌≡◌, ◌⊎◌, inl, inr, ℕ, zero, suc, ◌+◌, List, [], ◌∷◌, ◌++◌, length, map, get_or, Option, Some, None, slice_get, refl, sym, ap, ◌∙◌, arith, subst, append-nil, append_assoc}
+use Rattle.std.proofs.Common.{◌≡◌, inl, inr, ℕ, zero, suc, ◌+◌, List, [], ◌∷◌, ◌++◌, length, map, get_or, Option, Some, None, slice_get, refl, sym, ap, ◌∙◌, arith, subst, append-nil}
 use Rattle.std.proofs.lemmas.List.{get_or_append_left, get_or-append-add}
+use Rattle.std.proofs.lemmas.Option.{slice_get_within}
+use Rattle.patr_lists.proofs.Places.{get_left, get_parts}
 use Rattle.patr_model.specs.Structure.{Value, Node, Structure, arc, IsValue, IsStructure}
 use Rattle.patr_model.specs.Subsumption.{IsUnifier}
 use Rattle.patr_model.specs.Settled.{Images, Keeps}
@@ -20,7 +22,7 @@ use Rattle.patr_chart.specs.declared.edge.EdgeKind.TheVariants.{Entry, Rule}
 use Rattle.patr_chart.specs.declared.edge.Back.{Back}
 use Rattle.patr_chart.specs.declared.edge.Edge.{Edge}
 use Rattle.patr_chart.specs.Charted.{derived, derivations, tree}
-use Rattle.patr_chart.proofs.Trees.{get_below, from_length}
+use Rattle.patr_chart.proofs.Trees.{from_length}
 use Rattle.patr_library.specs.Stored.{Stored, Bounds, root_of}
 use Rattle.patr_parse.specs.Found.{IsRootOf, IsItemRoot, IsJoined, HasSource, IsSoundEdge, AreSound}
 use Rattle.patr_parse.specs.Tasks.{made_by, ItemsAreHeld, IsReady, AreWaiting}
@@ -123,23 +125,7 @@ module _ (v w : Shown) (sv : IsShown v) (sw : IsShown w) (e : Extends v w) where
 pub extends_same : (v : Shown) → Extends v v
 extends_same v = record { sizes = ([], sym (append-nil v.sizes)); structure = ([], sym (append-nil v.structure)) }
 
-pub extends_on : (u v w : Shown) → Extends u v → Extends v w → Extends u w
-extends_on u v w e f = record {
-  sizes = (e.sizes.0 ++ f.sizes.0, f.sizes.1 ∙ (ap (λ l. l ++ f.sizes.0) e.sizes.1 ∙ append_assoc u.sizes e.sizes.0 f.sizes.0));
-  structure = (e.structure.0 ++ f.structure.0, f.structure.1 ∙ (ap (λ l. l ++ f.structure.0) e.structure.1 ∙ append_assoc u.structure e.structure.0 f.structure.0));
-}
-
 -- ---- more edges
-
-pub get_parts : (es ys : List Edge) (k : ℕ) (e : Edge) → slice_get (es ++ ys) k ≡ Some e → (slice_get es k ≡ Some e) ⊎ ((n : ℕ) × (k ≡ length es + n) × (slice_get ys n ≡ Some e))
-get_parts [] ys k e h = inr (k, omega arith, h)
-get_parts (x ∷ es) ys zero e h = inl h
-get_parts (x ∷ es) ys (suc k) e h = elim (get_parts es ys k e h) as (λ _. (slice_get es k ≡ Some e) ⊎ ((n : ℕ) × (suc k ≡ length (x ∷ es) + n) × (slice_get ys n ≡ Some e))) [ inl q ↦ inl q | inr q ↦ inr (q.0, (let is = q.1 in omega (arith, is)), q.2) ]
-
-pub get_still : (es ys : List Edge) (k : ℕ) (e : Edge) → slice_get es k ≡ Some e → slice_get (es ++ ys) k ≡ Some e
-get_still [] ys k e h = cc
-get_still (x ∷ es) ys zero e h = h
-get_still (x ∷ es) ys (suc k) e h = get_still es ys k e h
 
 made_at : (f : Edge → Derivation) (ys : List Edge) (n : ℕ) (e : Edge) (d : Derivation) → slice_get ys n ≡ Some e → get_or (map f ys) n d ≡ f e
 made_at f [] n e d h = cc
@@ -148,7 +134,7 @@ made_at f (y ∷ ys) (suc n) e d h = made_at f ys n e d h
 
 source_more : (s : Stored) (v : Shown) (es ys : List Edge) (f : Edge) (o : Option Back) → HasSource s v es f o → HasSource s v (es ++ ys) f o
 source_more s v es ys f None c = c
-source_more s v es ys f (Some b) c = (c.0, c.1, get_still es ys b.active c.0 c.2, get_still es ys b.passive c.1 c.3, c.4)
+source_more s v es ys f (Some b) c = (c.0, c.1, get_left es ys b.active c.0 c.2, get_left es ys b.passive c.1 c.3, c.4)
 
 pub sound_more : (g : Rules) (s : Stored) (v : Shown) (es ys : List Edge) (t : Derivation) (f : Edge) → IsSoundEdge g s v es t f → IsSoundEdge g s v (es ++ ys) t f
 sound_more g s v es ys t f h = record { held = h.held; value = h.value; bounds = h.bounds; sized = h.sized; item = h.item; source = source_more s v es ys f f.back h.source }
@@ -156,7 +142,7 @@ sound_more g s v es ys t f h = record { held = h.held; value = h.value; bounds =
 -- edges behind others
 pub sound_pushed : (g : Rules) (s : Stored) (v : Shown) (es ys : List Edge) → derivations (es ++ ys) ≡ derivations es ++ made_by es ys → AreSound g s v es → AreWaiting g s v es ys → AreSound g s v (es ++ ys)
 sound_pushed g s v es ys is sound waiting = λ k f at. elim (get_parts es ys k f at) [
-  | inl old ↦ (let same : tree (es ++ ys) k ≡ tree es k = ap (λ l. get_or l k (Begin 0 0 0)) is ∙ get_or_append_left (derivations es) (made_by es ys) (Begin 0 0 0) k (omega (arith, get_below es k f old, from_length [] es)) in
+  | inl old ↦ (let same : tree (es ++ ys) k ≡ tree es k = ap (λ l. get_or l k (Begin 0 0 0)) is ∙ get_or_append_left (derivations es) (made_by es ys) (Begin 0 0 0) k (omega (arith, slice_get_within es k f old, from_length [] es)) in
       subst (λ t. IsSoundEdge g s v (es ++ ys) t f) (sym same) (sound_more g s v es ys (tree es k) f (sound k f old)))
   | inr new ↦ (let place : k ≡ length (derivations es) + new.0 = (let q = new.1 in omega (arith, q, from_length [] es)) in
       let same : tree (es ++ ys) k ≡ derived (derivations es) f =

@@ -1,12 +1,13 @@
 -- The edge that two edges make.
 use Rattle.std.proofs.Common.{◌≡◌, ◌≢◌, inl, inr, ℕ, suc, ◌+◌, Bool, true, false, List, [], ◌∷◌, ◌++◌, length, append-nil, option_and_then, Some, None, slice_get, refl, sym, ap, ◌∙◌, arith, subst}
+use Rattle.patr_lists.proofs.Places.{get_there}
 use Rattle.patr_model.specs.Structure.{Value, Atom, Node, Structure, arc, at, IsReached}
 use Rattle.patr_model.specs.Subsumption.{TakesBoth, IsUnifier}
 use Rattle.patr_model.specs.Settled.{Images, Keeps}
 use Rattle.patr_model.specs.Derivation.{Rules, Derivation, Extend, seen, size, IsPartial, IsComplete}
 use Rattle.patr_model.specs.Solution.{IsSolvable, IsLeastValue, with_slots}
 use Rattle.patr_model.proofs.Maps.{some_inj, carries_arc}
-use Rattle.patr_model.proofs.Steps.{solves_count, slot_there, takes_of_solution, unifier_of_partial, unifier_of_complete}
+use Rattle.patr_model.proofs.Steps.{solves_count, takes_of_solution, unifier_of_partial, unifier_of_complete}
 use Rattle.patr_arena.specs.declared.value.Value as its
 use Rattle.patr_arena.specs.Shown.{Shown, IsShown, ValueIsHeld, value_of}
 use Rattle.patr_arena.specs.Blocks.{Extends}
@@ -39,7 +40,7 @@ next_slot g t M m part l =
     let G = l.solution.0 in
     let w = l.solution.1 in
     let count = solves_count g t G s.slots part.0 part.1 s.solves in
-    let next = slot_there s.slots (suc (seen t)) (let short = part.2 in omega (arith, count, short)) in
+    let next = get_there s.slots (suc (seen t)) (let short = part.2 in omega (arith, count, short)) in
     let into = l.solution.3.0 in
     let led = carries_arc G M into.by into.is_map w m into.root (suc (seen t)) next.0 (s.value.partial part (suc (seen t)) next.0 next.1) in
     (led.0, led.2)

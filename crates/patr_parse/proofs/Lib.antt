@@ -27,4 +27,3 @@ pub mod NextCategories
 pub mod Begins
 pub mod Ready
 pub mod ItemEdges
-pub mod Sound

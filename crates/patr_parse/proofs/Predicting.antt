@@ -2,12 +2,14 @@
 use Rattle.std.proofs.Common.{◌≡◌, ◌⊎◌, inl, inr, ℕ, zero, suc, ◌+◌, ◌<◌, ◌≤◌, Bool, true, false, cond, ◌&&◌, nat_eq, List, [], ◌∷◌, ◌++◌, length, map, get_or, Option, Some, None, slice_get, option_and_then, refl, sym, ap, ◌∙◌, arith, subst, length-append, eqb-true, eq-eqb, nat_lt, ltb-true, ltb-false}
 use Rattle.std.proofs.lemmas.List.{get_or_append_left}
 use Rattle.std.proofs.lemmas.Option.{slice_get_within}
+use Rattle.patr_lists.proofs.Members.{in_cases, in_right, in_left, in_at}
+use Rattle.patr_lists.specs.Members.{IsIn}
 use Rattle.patr_model.specs.Structure.{Value, Atom, Node, Structure, at}
 use Rattle.patr_model.specs.Category.{atom_of}
 use Rattle.patr_model.specs.Derivation as derivation
 use Rattle.patr_model.specs.Derivation.{Rules, RuleVariant, EntryVariant, Derivation, Leaf, Begin, Extend, rule_variant, entry_variant, root_rule, end, IsPartial, IsComplete}
 use Rattle.patr_model.specs.Solution.{IsSolvable, IsLeastValue}
-use Rattle.patr_model.specs.Chart.{InChart, IsIn}
+use Rattle.patr_model.specs.Chart.{InChart}
 use Rattle.patr_model.specs.Plain.{slot_category}
 use Rattle.patr_model.specs.Builds.{HasCategories}
 use Rattle.patr_model.specs.Equation.{Equation}
@@ -16,13 +18,12 @@ use Rattle.patr_model.specs.Build.{entry_variant_of, entry_variants, feature_var
 use Rattle.patr_model.specs.Renaming.{Each}
 use Rattle.patr_model.specs.Rounds.{IsNoPair, IsPredicted}
 use Rattle.patr_model.proofs.Maps.{some_inj, and_then_some}
-use Rattle.patr_model.proofs.Rounds.{in_left, in_right, in_either}
 use Rattle.patr_model.proofs.PlainChart.{follows, plainly, slot_atom, slot_is}
 use Rattle.patr_model.proofs.StatedCategories.{are_built}
 use Rattle.patr_arena.specs.Shown.{Shown, value_of}
 use Rattle.patr_chart.specs.declared.edge.Edge.{Edge}
 use Rattle.patr_chart.specs.Charted.{derivations, tree}
-use Rattle.patr_chart.proofs.Trees.{from_length, get_below}
+use Rattle.patr_chart.proofs.Trees.{from_length}
 use Rattle.patr_lexicon.specs.declared.lexicon.Entry.{Entry}
 use Rattle.patr_lexicon.specs.Seen.{entry_seen}
 use Rattle.patr_library.specs.declared.item.RuleItem.{RuleItem}
@@ -34,7 +35,6 @@ use Rattle.patr_parse.specs.Tasks.{judge, made_by}
 use Rattle.patr_parse.specs.Standing.{Stands}
 use Rattle.patr_parse.specs.Begun.{begun_at, begun_unless, begun_by, next_of, is_marked, HasMark, HasMarkOf, IsAloneEdge}
 use Rattle.patr_parse.specs.Predicting.{ArePredicted, IsMarked}
-use Rattle.patr_parse.proofs.Numbers.{at_in}
 use Rattle.patr_parse.proofs.Added.{AreNew, none_new, derivations_new}
 use Rattle.patr_parse.proofs.Items.{rule_item, begun_least, begun_solvable, IsBegun, in_begun, begun_in, once_begun, no_pair_begun}
 
@@ -131,7 +131,7 @@ module _ (s : Stored) (ws : List ℕ) (M : ℕ → ℕ → Type 0) (seen : ℕ) 
       | inl k ↦ there_still (Begin item.rule item.variant i) (p.marked n i item at k)
       | inr k ↦ subst (λ l. IsIn l (Begin item.rule item.variant i)) (sym is) (in_right (derivations es) ts (Begin item.rule item.variant i) k)
     ];
-    begun = λ n i item at h. elim (in_either (derivations es) ts (Begin item.rule item.variant i) (subst (λ l. IsIn l (Begin item.rule item.variant i)) is h)) [
+    begun = λ n i item at h. elim (in_cases (derivations es) ts (Begin item.rule item.variant i) (subst (λ l. IsIn l (Begin item.rule item.variant i)) is h)) [
       | inl k ↦ more item.mother.0 i (p.begun n i item at k)
       | inr k ↦ begun n i item at k
     ];
@@ -296,13 +296,13 @@ module _ (s : Stored) (stored : IsStored s) where
   module _ (ws : List ℕ) (v : Shown) (es : List Edge) (sound : AreSound (rules_of s) s v es) (j : ℕ) (stands : Stands (judge s) (rules_of s) ws es j [])
       (marks : List Mark) (seen : ℕ) (h : ArePredicted s ws (IsMarked marks) seen es) (e : Edge) (at_e : slice_get es seen ≡ Some e) where
     here : seen < length es
-    here = get_below es seen e at_e
+    here = slice_get_within es seen e at_e
 
     t : Derivation
     t = tree es seen
 
     t_in : InChart (judge s) (rules_of s) ws (tree es seen)
-    t_in = stands.worked.edges (tree es seen) (in_left (derivations es) [] (tree es seen) (at_in (derivations es) (Begin 0 0 0) seen (omega (arith, here, from_length [] es))))
+    t_in = stands.worked.edges (tree es seen) (in_left (derivations es) [] (tree es seen) (in_at (derivations es) (Begin 0 0 0) seen (omega (arith, here, from_length [] es))))
 
     -- a rule whose mother is the next category
     licensed : (c : ℕ) → next_of (rules_of s) (tree es seen) ≡ Some c → (u : Derivation) → IsBegun s stored c (end (tree es seen)) u → InChart (judge s) (rules_of s) ws u

@@ -1,10 +1,11 @@
 -- What a round needs is there: before it, and after more edges were predicted.
 use Rattle.std.proofs.Common.{◌≡◌, inl, inr, ℕ, ◌<◌, ◌≤◌, List, [], ◌∷◌, ◌++◌, length, take, refl, sym, ap, ◌∙◌, arith, subst}
 use Rattle.std.proofs.lemmas.List.{take-append-le}
+use Rattle.patr_lists.proofs.Members.{in_cases, in_left, once_left}
+use Rattle.patr_lists.specs.Members.{IsIn}
 use Rattle.patr_model.specs.Derivation.{Rules, Derivation, Leaf, Begin, Extend, size}
-use Rattle.patr_model.specs.Chart.{Judgement, IsIn}
+use Rattle.patr_model.specs.Chart.{Judgement}
 use Rattle.patr_model.specs.Renaming.{Each}
-use Rattle.patr_model.proofs.Rounds.{in_left, in_either}
 use Rattle.patr_arena.specs.Shown.{Shown}
 use Rattle.patr_arena.specs.Blocks.{Extends}
 use Rattle.patr_arena.proofs.Showing.{still_held}
@@ -20,7 +21,6 @@ use Rattle.patr_parse.specs.Standing.{Stands, IsGrown}
 use Rattle.patr_parse.specs.Begun.{IsAloneEdge}
 use Rattle.patr_parse.specs.Predicting.{IsMarked, IsPrediction}
 use Rattle.patr_parse.proofs.Tasks.{trees_length}
-use Rattle.patr_parse.proofs.Standing.{once_left}
 use Rattle.patr_parse.proofs.Added.{derivations_new, sound_new, each_is, alones, alone_edge}
 use Rattle.patr_parse.proofs.Items.{rule_item}
 use Rattle.patr_parse.proofs.Predicting.{predicted_grown}
@@ -68,7 +68,7 @@ module _ (j : Judgement) (g : Rules) (s : Stored) (v : Shown) (ws : List ℕ) (l
   ready_more k stands few r = ready j g s v ws limit (es ++ ys) k stands (sound_new g s v es ys ts each r.sound) r.items small
     where
       small : AreSmall limit (derivations (es ++ ys))
-      small t h = elim (in_either (derivations es) ts t (subst (λ l. IsIn l t) (derivations_new g s v es ys ts each) h)) [
+      small t h = elim (in_cases (derivations es) ts t (subst (λ l. IsIn l t) (derivations_new g s v es ys ts each) h)) [
         | inl old ↦ r.small t old
         | inr new ↦ (let one = alones_small ys t (subst (λ l. IsIn l t) (sym (each_is g s v ts ys each)) new) in omega (arith, one, few, in_long (derivations (es ++ ys)) t h, trees_length (es ++ ys)))
       ]

@@ -2,27 +2,26 @@
 use Rattle.std.proofs.Common.{◌≡◌, inl, inr, ℕ, zero, suc, ◌+◌, ◌<◌, ◌≤◌, List, [], ◌∷◌, ◌++◌, length, take, Option, Some, None, slice_get, refl, sym, ap, ◌∙◌, arith, subst, append-nil, append_assoc, length-append}
 use Rattle.std.proofs.lemmas.List.{map-append, length-map, take_more, take-append-le, get_or_append_left}
 use Rattle.std.proofs.Math.Seq.{take-length}
+use Rattle.std.proofs.lemmas.Option.{slice_get_within}
+use Rattle.patr_lists.proofs.Places.{get_parts}
+use Rattle.patr_lists.proofs.Members.{in_cases, in_left, one_place, in_at, once_left}
+use Rattle.patr_lists.specs.Members.{IsIn}
 use Rattle.patr_model.specs.Derivation.{Rules, Derivation, Begin, Extend}
-use Rattle.patr_model.specs.Chart.{Judgement, InChart, IsIn, EachOnce, IsChart, HasMoreThan}
+use Rattle.patr_model.specs.Chart.{Judgement, InChart, IsChart, HasMoreThan}
 use Rattle.patr_model.proofs.Maps.{some_inj}
 use Rattle.patr_model.specs.Rounds.{IsWorked, IsPredicted, IsYield}
-use Rattle.patr_model.proofs.Rounds.{in_left, in_either, rounds}
+use Rattle.patr_model.proofs.Rounds.{rounds}
 use Rattle.patr_chart.specs.declared.edge.EdgeKind.{EdgeKind}
 use Rattle.patr_chart.specs.declared.edge.EdgeKind.TheVariants.{Entry, Rule}
 use Rattle.patr_chart.specs.declared.edge.Back.{Back}
 use Rattle.patr_chart.specs.declared.edge.Edge.{Edge}
 use Rattle.patr_chart.specs.Charted.{HasOrigin, IsEdgeAfter, alone, derivation_at, derived_by, derived, derivations_from, derivations, tree}
 use Rattle.patr_chart.specs.Laws.{KindsFit}
-use Rattle.patr_chart.proofs.Trees.{get_below, from_append}
+use Rattle.patr_chart.proofs.Trees.{from_append}
 use Rattle.patr_parse.specs.Tasks.{made_by, AreSmall, HasLarge, IsTask}
 use Rattle.patr_parse.specs.Standing.{Stands, MayBePushed, RoundGave, IsMadeOfTwo, IsRound}
-use Rattle.patr_parse.proofs.Numbers.{at_in, in_taken, one_number}
+use Rattle.patr_parse.proofs.Numbers.{in_taken}
 use Rattle.patr_parse.proofs.Tasks.{trees_length}
-use Rattle.patr_parse.proofs.Growing.{get_parts}
-
-pub once_left : (ts us : List Derivation) → EachOnce (ts ++ us) → EachOnce ts
-once_left [] us o = tt
-once_left (t ∷ ts) us o = ((λ h. o.0 (in_left ts us t h)), once_left ts us o.1)
 
 -- what an edge stands for doesn't depend on later ones
 derived_more : (words : ℕ) (es : List Edge) (more : List Derivation) (e : Edge) → IsEdgeAfter words es e → derived (derivations es ++ more) e ≡ derived (derivations es) e
@@ -31,8 +30,8 @@ derived_more words es more e h = go e.back h.origin
     go : (o : Option Back) → HasOrigin es e o → derived_by (derivations es ++ more) e o ≡ derived_by (derivations es) e o
     go None k = refl
     go (Some b) k =
-        let a = get_below es b.active k.0 k.2 in
-        let p = get_below es b.passive k.1 k.3 in
+        let a = slice_get_within es b.active k.0 k.2 in
+        let p = slice_get_within es b.passive k.1 k.3 in
         let long = trees_length es in
         ap (λ t. Extend t (derivation_at (derivations es ++ more) b.passive)) (get_or_append_left (derivations es) more (Begin 0 0 0) b.active (omega (arith, a, long)))
         ∙ ap (λ t. Extend (derivation_at (derivations es) b.active) t) (get_or_append_left (derivations es) more (Begin 0 0 0) b.passive (omega (arith, p, long)))
@@ -86,7 +85,7 @@ made_of_two words es (y ∷ ys) m t (inl q) =
 made_of_two words es (y ∷ ys) m t (inr h) = made_of_two words es ys (λ n e k. m (suc n) e k) t h
 
 small_append : (limit : ℕ) (ts us : List Derivation) → AreSmall limit ts → AreSmall limit us → AreSmall limit (ts ++ us)
-small_append limit ts us a b t h = elim (in_either ts us t h) [ inl k ↦ a t k | inr k ↦ b t k ]
+small_append limit ts us a b t h = elim (in_cases ts us t h) [ inl k ↦ a t k | inr k ↦ b t k ]
 
 pub round_done : (limit words : ℕ) (es ys : List Edge) → AreSmall limit (derivations es) → RoundGave limit words es ys → IsRound limit es (es ++ ys)
 round_done limit words es ys small r =
@@ -123,9 +122,9 @@ module _ (j : Judgement) (g : Rules) (ws : List ℕ) where
       let x = tree es k in
       let fresh : IsIn (take k D) x → ⊥ = λ i.
       let at = in_taken k D (Begin 0 0 0) x i in
-      let same = one_number D (Begin 0 0 0) (once_left D (made_by es ys) s.worked.once) at.at k at.within here at.is in let before = at.before in omega (arith, same, before) in
+      let same = one_place D (Begin 0 0 0) (once_left D (made_by es ys) s.worked.once) at.at k at.within here at.is in let before = at.before in omega (arith, same, before) in
       let yields : IsYield j g (take k D) x (made_by es zs) = record { once = t.yields.once; pairs = t.yields.pairs; every = t.yields.every } in
-      let w = (rounds j g ws).works (take k D) (D ++ made_by es ys) x (made_by es zs) s.worked (in_left D (made_by es ys) x (at_in D (Begin 0 0 0) k here)) fresh yields in
+      let w = (rounds j g ws).works (take k D) (D ++ made_by es ys) x (made_by es zs) s.worked (in_left D (made_by es ys) x (in_at D (Begin 0 0 0) k here)) fresh yields in
       record {
         worked = subst (λ l. IsWorked j g ws l (D ++ made_by es (ys ++ zs))) (sym (take_more D k (Begin 0 0 0) here))
             (subst (λ l. IsWorked j g ws (take k D ++ x ∷ []) l)

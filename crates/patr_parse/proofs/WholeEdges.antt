@@ -1,5 +1,10 @@
 -- The passive edges of the start symbol over all the words are the analyses.
 use Rattle.std.proofs.Common.{◌≡◌, ℕ, zero, suc, Bool, true, false, cond, ◌&&◌, nat_eq, eqb-true, eq-eqb, List, [], ◌∷◌, length, take, Option, Some, None, option_and_then, slice_get, refl, sym, ap, ◌∙◌, arith, subst}
+use Rattle.std.proofs.lemmas.Option.{slice_get_within}
+use Rattle.patr_parse.proofs.Tasks.{trees_length}
+use Rattle.patr_lists.proofs.Alls.{all_get}
+use Rattle.patr_lists.proofs.Places.{get_there}
+use Rattle.patr_lists.proofs.Members.{place_of}
 use Rattle.patr_model.specs.Structure as structure
 use Rattle.patr_model.specs.Structure.{Value, Atom, Node, Structure}
 use Rattle.patr_model.specs.Category.{atom_of, atom_at}
@@ -18,16 +23,13 @@ use Rattle.patr_chart.specs.declared.edge.Edge.{Edge}
 use Rattle.patr_chart.specs.Edges.{is_passive}
 use Rattle.patr_chart.specs.Charted.{IsAlone, HasOrigin, AreEdges, derivations, starts_at, tree}
 use Rattle.patr_chart.specs.Laws.{KindFits, KindsFit, IsJudged}
-use Rattle.patr_chart.proofs.Trees.{get_below, from_length, tree_of}
+use Rattle.patr_chart.proofs.Trees.{tree_of}
 use Rattle.patr_chart.proofs.Shown.{is_judged}
 use Rattle.patr_library.specs.declared.item.RuleItem.{RuleItem}
 use Rattle.patr_library.specs.Stored.{Stored, HasItems, IsRuleItem, keys, root_of}
 use Rattle.patr_parse.specs.Found.{AreSound, IsOfItem}
 use Rattle.patr_parse.specs.Analyses.{is_atom, has_category, is_whole}
-use Rattle.patr_parse.proofs.Members.{all_get, all_there, element_at, place_of}
-
-pub trees_length : (es : List Edge) → length (derivations es) ≡ length es
-trees_length es = omega (arith, from_length [] es)
+use Rattle.patr_parse.proofs.Members.{all_there}
 
 both : (b c : Bool) → b && c ≡ true → (b ≡ true) × (c ≡ true)
 both true c h = (refl, h)
@@ -99,12 +101,12 @@ module _ (g : Rules) (s : Stored) (items : HasItems g s.shown s.rules s.entries)
 
     module _ (cat : ℕ) (ws : List ℕ) (chart : IsChart (solved g cat) g ws (derivations es)) where
       in_chart : (k : ℕ) (e : Edge) → slice_get es k ≡ Some e → InChart (solved g cat) g ws (tree es k)
-      in_chart k e at = all_get (InChart (solved g cat) g ws) (derivations es) k (Begin 0 0 0) chart.edges (omega (arith, trees_length es, get_below es k e at))
+      in_chart k e at = all_get (InChart (solved g cat) g ws) (derivations es) k (Begin 0 0 0) chart.edges (omega (arith, trees_length es, slice_get_within es k e at))
 
       pub edge_of_tree : (t : Derivation) → InChart (solved g cat) g ws t → (k : ℕ) × (e : Edge) × (slice_get es k ≡ Some e) × (tree es k ≡ t)
       edge_of_tree t h =
           let p = place_of (derivations es) (Begin 0 0 0) t (chart.every t h) in
-          let e = element_at es p.0 (omega (arith, trees_length es, p.1)) in
+          let e = get_there es p.0 (omega (arith, trees_length es, p.1)) in
           (p.0, e.0, e.1, p.2)
 
       pub have_least : HaveLeastValues g cat ws

@@ -3,6 +3,7 @@ use Rattle.std.proofs.Common.{◌≡◌, ℕ, zero, suc, ◌<◌, ◌≤◌, Boo
 use Rattle.std.specs.List.{AllByRecursion, cons_option}
 use Rattle.std.specs.Option as options
 use Rattle.std.proofs.lemmas.Option.{slice_get-map}
+use Rattle.patr_lists.proofs.Alls.{all_at, all_append, all_map, all_flat}
 use Rattle.patr_model.specs.Equation.{Term, PathOf, Equation}
 use Rattle.patr_model.specs.Derivation.{RuleVariant, EntryVariant, entry_variant, rule_variant}
 use Rattle.patr_model.specs.Grammar as model
@@ -12,7 +13,6 @@ use Rattle.patr_model.specs.Productions.{TermText, AtomText, OfPath, EquationTex
 use Rattle.patr_model.specs.LexiconText.{EntryOf}
 use Rattle.patr_model.specs.Build.{mapped, mapped_of, symbol_of, term_of, equation_of, rule_of, feature_equation, feature_variants, gloss_fact, facts_of, entry_variant_of, entry_variants}
 use Rattle.patr_model.proofs.Maps.{some_inj, and_then_some}
-use Rattle.patr_model.proofs.Members.{all_at, all_append, all_map, all_flat}
 use Rattle.patr_model.proofs.StatedCategories.{everything, every_rule, every_entry}
 use Rattle.patr_text.specs.declared.symbols.Id.{Id}
 use Rattle.patr_lexicon.specs.declared.lexicon.Entry as code

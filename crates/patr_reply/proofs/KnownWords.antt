@@ -3,6 +3,7 @@ use Rattle.std.proofs.Common.{◌≡◌, ℕ, ◌≤◌, Bool, List, [], ◌∷�
 use Rattle.std.specs.List.{AllByRecursion}
 use Rattle.std.specs.Option.{option_map}
 use Rattle.std.proofs.lemmas.Option.{slice_get-map}
+use Rattle.patr_lists.proofs.Places.{get_there}
 use Rattle.patr_model.specs.Equation.{Equation}
 use Rattle.patr_model.specs.Derivation.{EntryVariant}
 use Rattle.patr_model.specs.Grammar.{variants}
@@ -22,7 +23,7 @@ use Rattle.patr_parse.specs.Sentences.{AreNumbers, IsKnown, IsParsed, IsFirstUnk
 use Rattle.patr_reply.specs.Held.{AreHeldBy}
 use Rattle.patr_reply.specs.Lines.{grounds, state_of}
 use Rattle.patr_reply.proofs.Holding.{entry_from, entry_below}
-use Rattle.patr_reply.proofs.Listing.{text_at, cat_is}
+use Rattle.patr_reply.proofs.Listing.{cat_is}
 
 -- features have a variant
 some_variant : (es : List Element) → (fs : List Equation) × (slice_get (variants (feature_variants number) (features_seen es)) 0 ≡ Some fs)
@@ -65,7 +66,7 @@ module _ (s : Stored) (table : List (List ℕ)) (names : Numbering) (agrees : Ag
     known_back : (w : List ℕ) → session.IsKnown (grounds names s) w → IsKnown s table w
     known_back w h =
         let x = entry_from s h.0 h.1 h.2 h.3 in
-        let t = text_at table x.0.word.0 (entry_below (length table) s held h.0 x.0 x.1).1 in
+        let t = get_there table x.0.word.0 (entry_below (length table) s held h.0 x.0 x.1).1 in
         let number_is : names.number t.0 ≡ names.number w = agrees x.0.word.0 t.0 t.1 ∙ (sym x.2.1 ∙ h.4) in
         let same : t.0 ≡ w = sym (names.back t.0) ∙ (ap names.text number_is ∙ names.back w) in
         (h.0, x.0, x.1, t.1 ∙ ap (λ u. Some u) same)

@@ -1,6 +1,7 @@
 -- A value's canonical text depends on the texts of the symbols to which its paths lead, and on no other.
-use Rattle.std.proofs.Common.{◌≡◌, ℕ, zero, suc, ◌<◌, Bool, true, false, cond, nat_eq, nat_lt, eqb-true, eq-eqb, lt-ltb, ltb-true, [], ◌∷◌, length, Option, Some, None, slice_index_or, refl, sym, ap, ◌∙◌, subst, arith}
+use Rattle.std.proofs.Common.{◌≡◌, ℕ, zero, suc, ◌<◌, Bool, true, false, cond, nat_lt, lt-ltb, ltb-true, [], ◌∷◌, length, Option, Some, None, slice_index_or, refl, sym, ap, ◌∙◌, subst, arith}
 use Rattle.std.specs.List.{AllByRecursion}
+use Rattle.patr_model.proofs.Shared.{all_along}
 use Rattle.patr_model.specs.Structure.{Value, Atom, Node, Arc, Arcs, Structure, along, arcs_of, HasDistinct, arc, IsBelow, IsValue, IsStructure}
 use Rattle.patr_model.specs.Subsumption.{image, IsMap, MapsInto, Same}
 use Rattle.patr_model.specs.Text.{Look, canonical}
@@ -61,21 +62,6 @@ emptied_at h (es ∷ S) (suc n) = emptied_at (λ m. h (suc m)) S n
 emptied_length : (h : ℕ → Option Value) (S : Structure) → length (emptied h S) ≡ length S
 emptied_length h [] = refl
 emptied_length h (es ∷ S) = ap suc (emptied_length (λ m. h (suc m)) S)
-
--- what an arc leads to, behind another arc
-behind : (e : Arc) (es : Arcs) (a : ℕ) (x : Value) → along es e.attribute ≡ None → along es a ≡ Some x → along (e ∷ es) a ≡ Some x
-behind e es a x none q = go (nat_eq e.attribute a) refl
-  where
-    go : (b : Bool) → nat_eq e.attribute a ≡ b → cond b (Some e.to) (along es a) ≡ Some x
-    go true t = let bad : None ≡ Some x = sym none ∙ (ap (along es) (eqb-true e.attribute a t) ∙ q) in cc
-    go false t = q
-
-each_arc : (Q : ℕ → Value → Type 0) (es : Arcs) → HasDistinct es → ((a : ℕ) (x : Value) → along es a ≡ Some x → Q a x) → AllByRecursion (λ e. Q e.attribute e.to) es
-each_arc Q [] d all = tt
-each_arc Q (e ∷ es) d all = (
-  all e.attribute e.to (ap (λ b. cond b (Some e.to) (along es e.attribute)) (eq-eqb e.attribute e.attribute refl)),
-  each_arc Q es d.1 (λ a x q. all a x (behind e es a x d.0 q)),
-)
 
 module _ (h : ℕ → Option Value) (M : Structure) (is : IsStructure M) where
   abbrev E : Structure
@@ -156,7 +142,7 @@ module _ (h : ℕ → Option Value) (M : Structure) (is : IsStructure M) where
         where
           go : (o : Option Value) → h n ≡ o → AllByRecursion (λ (e : Arc). P e.attribute × OfValue P e.to) (kept o (slice_index_or M n []))
           go None t = tt
-          go (Some y) t = each_arc (λ a x. P a × OfValue P x) (slice_index_or M n []) (is.distinct n)
+          go (Some y) t = all_along (λ a x. P a × OfValue P x) (slice_index_or M n []) (is.distinct n)
               (λ a x q. let one = m.arcs n y t a x q in let p = passes y a one.0 one.2 in (p.0, value_passes x one.0 one.1 p.1))
 
       all_pass : (x z : Value) → image h x ≡ Some z → OfValue P z → OfSymbols P E x

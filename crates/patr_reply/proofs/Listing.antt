@@ -1,12 +1,14 @@
 -- The reply to a sentence, by its parts.
-use Rattle.std.proofs.Common.{◌≡◌, ℕ, zero, suc, ◌+◌, ◌<◌, Bool, true, false, List, [], ◌∷◌, ◌++◌, length, map, take, get_or, Some, slice_get, codes, decimal, refl, sym, ap, ◌∙◌, subst, arith, append_assoc, append-nil, ltb-true}
+use Rattle.std.proofs.Common.{◌≡◌, ℕ, zero, suc, ◌+◌, ◌<◌, Bool, true, false, List, [], ◌∷◌, ◌++◌, length, map, take, get_or, slice_get, codes, decimal, refl, sym, ap, ◌∙◌, subst, arith, append_assoc, append-nil, ltb-true}
 use Rattle.std.specs.List.{AllByRecursion}
 use Rattle.std.proofs.lemmas.List.{length-map}
+use Rattle.patr_lists.proofs.Places.{get_there}
+use Rattle.patr_lists.specs.Members.{IsIn}
 use Rattle.patr_model.specs.Derivation.{Rules, Derivation}
 use Rattle.patr_model.specs.Text.{Look, canonical}
 use Rattle.patr_model.specs.Table.{table_text, table_look, text_or, total, zeros}
 use Rattle.patr_model.specs.Session.{Numbering, AgreesWith, Grounds, line, cat_of, IsLeastText, ListsAnalyses, CountsEdges, ListsAll}
-use Rattle.patr_model.specs.Chart.{IsAnalysis, IsChart, IsIn}
+use Rattle.patr_model.specs.Chart.{IsAnalysis, IsChart}
 use Rattle.patr_model.specs.Solved.{solved}
 use Rattle.patr_text.specs.Texts.{first_texts, Extends}
 use Rattle.patr_arena.specs.Shown.{Shown, value_of}
@@ -51,27 +53,11 @@ module _ (l m : Look) (g : Rules) (v : Shown) (es : List Edge) (features : Bool)
       ∙ (ap (λ t. t ++ one_text (i + 1) k) is ∙ (append_assoc head (lines 1 (take i ks)) (one_text (i + 1) k)
       ∙ (ap (λ j. head ++ (lines 1 (take i ks) ++ one_text j k)) (let e : i + 1 ≡ 1 + i = omega arith in e) ∙ ap (λ t. head ++ t) (sym (lines_more 1 ks i h)))))))
 
-pub take_whole : (ns : List ℕ) → take (length ns) ns ≡ ns
-take_whole [] = refl
-take_whole (n ∷ ns) = ap (λ l. n ∷ l) (take_whole ns)
-
--- what holds of all holds of each
-pub all_get : (P : ℕ → Type 0) (xs : List ℕ) (i d : ℕ) → AllByRecursion P xs → i < length xs → P (get_or xs i d)
-all_get P [] i d a h = absurd (omega (arith, h))
-all_get P (y ∷ xs) zero d a h = a.0
-all_get P (y ∷ xs) (suc i) d a h = all_get P xs i d a.1 (omega (arith, h))
-
 -- ---- by the table and by a numbering
-
--- a number of the table has its text there, and by each numbering that agrees
-pub text_at : (ts : List (List ℕ)) (i : ℕ) → i < length ts → (t : List ℕ) × (slice_get ts i ≡ Some t)
-text_at [] i b = absurd (omega (arith, b))
-text_at (t ∷ ts) zero b = (t, refl)
-text_at (t ∷ ts) (suc i) b = text_at ts i (omega (arith, b))
 
 texts_by : (names : Numbering) (table : List (List ℕ)) → AgreesWith names table → (c : ℕ) → below (length table) c ≡ true → table_text table c ≡ names.text c
 texts_by names table agrees c h =
-    let one = text_at table c (ltb-true c (length table) h) in
+    let one = get_there table c (ltb-true c (length table) h) in
     ap (λ o. text_or o (zeros (suc (total table + c)))) one.1 ∙ sym (text_of names table agrees c one.0 one.1)
 
 pub cat_is : (names : Numbering) (table : List (List ℕ)) → Extends first_texts table → AgreesWith names table → names.number (codes "cat") ≡ 33

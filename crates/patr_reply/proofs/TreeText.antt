@@ -1,5 +1,6 @@
 -- One step of writing a tree's text.
 use Rattle.std.proofs.Common.{◌≡◌, ℕ, ◌+◌, ◌<◌, List, [], ◌∷◌, ◌++◌, length, get_or, Some, None, slice_get, codes, refl, sym, ap, ◌∙◌, arith, append_assoc, append-nil}
+use Rattle.std.proofs.lemmas.Option.{slice_get_within}
 use Rattle.patr_model.specs.Derivation.{Rules, RuleVariant, EntryVariant, Derivation, Leaf, Begin, Extend, entry_variant, rule_variant}
 use Rattle.patr_model.proofs.Maps.{some_inj}
 use Rattle.patr_model.specs.Text.{Look, printed, entry_category, entry_word, mother_category, open_tree}
@@ -13,7 +14,7 @@ use Rattle.patr_reply.specs.declared.tree.Step.TheVariants.{Tree, Space, Close}
 use Rattle.patr_chart.specs.Charted.{alone, tree, AreEdges}
 use Rattle.patr_chart.specs.Pending.{weight}
 use Rattle.patr_reply.specs.Writing.{root_text, step_text, steps_text, step_weight, steps_weight, AreHeld, IsWritten}
-use Rattle.patr_chart.proofs.Trees.{tree_alone, tree_longer, get_below}
+use Rattle.patr_chart.proofs.Trees.{tree_alone, tree_longer}
 
 -- texts in a row
 pub four : (a s p c rest : List ℕ) → a ++ (s ++ (p ++ (c ++ rest))) ≡ (((a ++ s) ++ p) ++ c) ++ rest
@@ -135,7 +136,7 @@ module _ (words : ℕ) (es : List Edge) (all : AreEdges words es) (k : ℕ) (e :
   pub parts_held : AreHeld (length es) ss → AreHeld (length es) parts
   parts_held h =
       let l = tree_longer words es all k e b at some in
-      let below = get_below es k e at in
+      let below = slice_get_within es k e at in
       let n = length es in
       held_append n (((ss ++ Close ∷ []) ++ Tree b.passive ∷ []) ++ Space ∷ []) (Tree b.active ∷ [])
       (held_append n ((ss ++ Close ∷ []) ++ Tree b.passive ∷ []) (Space ∷ []) (held_append n (ss ++ Close ∷ []) (Tree b.passive ∷ []) (held_append n ss (Close ∷ []) h (tt, tt)) (omega (arith, l.passive_before, below), tt)) (tt, tt))

@@ -3,6 +3,7 @@ use Rattle.std.proofs.Common.{◌≡◌, ◌≢◌, ℕ, ◌<◌, ◌⊎◌, inl
 use Rattle.std.proofs.lemmas.Bool.{cases_eq}
 use Rattle.std.proofs.Math.Seq.{get_or-append_seam}
 use Rattle.std.proofs.lemmas.List.{ext_get_or, length-map}
+use Rattle.patr_lists.specs.Members.{IsIn, NoRepeats}
 use Rattle.patr_scratch.specs.declared.arc.ArcCell.{ArcCell}
 use Rattle.patr_scratch.specs.declared.Place.{Place}
 use Rattle.patr_scratch.specs.declared.Side.{Side}
@@ -13,7 +14,7 @@ use Rattle.patr_scratch.specs.Cells.{no_cell, read}
 use Rattle.patr_scratch.specs.WithRoom.{WithRoom}
 use Rattle.patr_scratch.specs.Marks.{mark_at, blank}
 use Rattle.patr_scratch.specs.Contents.{Link, PlaceMarks, Contents, unmarked, slot, HasPlace, marks, put, with_arc}
-use Rattle.patr_scratch.specs.Linked.{first_of, last_or, IsList, IsCellIn, NoCellTwice, LastIs, IsLastOf, IsLinked, place_of, contents_of}
+use Rattle.patr_scratch.specs.Linked.{first_of, last_or, IsList, LastIs, IsLastOf, IsLinked, place_of, contents_of}
 use Rattle.patr_scratch.proofs.Linking.{links, list_below, list_none, list_front, list_kept, links_kept, last_in, last_append}
 use Rattle.patr_scratch.proofs.Views.{place_at, linked_read, place_by, with_list}
 
@@ -36,7 +37,7 @@ front_cases ms lists k n j m l = elim (cases_eq j k) [
   | inr ne ↦ inr (ne, ap (λ b. cond b (n ∷ lists j) (lists j)) (ne_eqb j k ne), get_or-set_other ms k j m blank ne)
 ]
 
-last_front : (cells : List ArcCell) (a : Option Ends) (cs : List ℕ) (n : ℕ) → IsList cells (first_of a) cs → IsLastOf a cs → ((c : ℕ) → IsCellIn cs c → c < n) → LastIs (n ∷ cs) (last_or a n)
+last_front : (cells : List ArcCell) (a : Option Ends) (cs : List ℕ) (n : ℕ) → IsList cells (first_of a) cs → IsLastOf a cs → ((c : ℕ) → IsIn cs c → c < n) → LastIs (n ∷ cs) (last_or a n)
 last_front cells None cs n h l b = subst (λ us. LastIs (n ∷ us) n) (sym (list_none cells None cs h refl)) refl
 last_front cells (Some e) cs n h l b = last_append (n ∷ []) cs e.last l (λ i. elim i [ inl q ↦ let under = b e.last (last_in cs e.last l) in absurd (omega (arith, under, q)) | inr q ↦ q ])
 
@@ -54,7 +55,7 @@ linked_front ms cells k new i l e =
     let n = length cells in
     let m = front_mark ms k n in
     let cells' = cells ++ new ∷ [] in
-    let below : (j c : ℕ) → IsCellIn (i.lists j) c → c < n = λ j c. list_below cells (first_of (mark_at ms j).added) (i.lists j) c (i.each j) in
+    let below : (j c : ℕ) → IsIn (i.lists j) c → c < n = λ j c. list_below cells (first_of (mark_at ms j).added) (i.lists j) c (i.each j) in
     record {
       lists = front_lists i.lists k n;
       owner = front_owner i.owner k n;
@@ -73,22 +74,22 @@ linked_front ms cells k new i l e =
         | inr h ↦ subst (λ us. IsLastOf (mark_at (set ms k m) j).added us) (sym h.1) (subst (λ (u : Mark). IsLastOf u.added (i.lists j)) (sym h.2) (i.last j))
       ];
       once = λ j. elim (front_cases ms i.lists k n j m l) [
-        | inl h ↦ subst NoCellTwice (sym h.1) ((λ q. let under = below k n q in absurd (omega (arith, under))), i.once k)
-        | inr h ↦ subst NoCellTwice (sym h.1) (i.once j)
+        | inl h ↦ subst NoRepeats (sym h.1) ((λ q. let under = below k n q in absurd (omega (arith, under))), i.once k)
+        | inr h ↦ subst NoRepeats (sym h.1) (i.once j)
       ];
       owned = λ j c q. elim (front_cases ms i.lists k n j m l) [
-        | inl h ↦ elim (first_or_rest n (i.lists k) c (subst (λ us. IsCellIn us c) h.1 q)) [
+        | inl h ↦ elim (first_or_rest n (i.lists k) c (subst (λ us. IsIn us c) h.1 q)) [
           | inl r ↦ owner_new i.owner k n c r ∙ sym h.0
           | inr r ↦ owner_old i.owner k n c (below k c r) ∙ (i.owned k c r ∙ sym h.0)
         ]
-        | inr h ↦ let r : IsCellIn (i.lists j) c = subst (λ us. IsCellIn us c) h.1 q in owner_old i.owner k n c (below j c r) ∙ i.owned j c r
+        | inr h ↦ let r : IsIn (i.lists j) c = subst (λ us. IsIn us c) h.1 q in owner_old i.owner k n c (below j c r) ∙ i.owned j c r
       ];
     }
   where
-    first_or_rest : (n : ℕ) (cs : List ℕ) (c : ℕ) → IsCellIn (n ∷ cs) c → (n ≡ c) ⊎ IsCellIn cs c
+    first_or_rest : (n : ℕ) (cs : List ℕ) (c : ℕ) → IsIn (n ∷ cs) c → (n ≡ c) ⊎ IsIn cs c
     first_or_rest n cs c h = h
 
-front_same : (cells : List ArcCell) (new : ArcCell) (cs : List ℕ) → ((c : ℕ) → IsCellIn cs c → c < length cells) → links (cells ++ new ∷ []) (length cells ∷ cs) ≡ record { cell = length cells; attribute = new.attribute; to = new.to } ∷ links cells cs
+front_same : (cells : List ArcCell) (new : ArcCell) (cs : List ℕ) → ((c : ℕ) → IsIn cs c → c < length cells) → links (cells ++ new ∷ []) (length cells ∷ cs) ≡ record { cell = length cells; attribute = new.attribute; to = new.to } ∷ links cells cs
 front_same cells new cs b =
     ap (λ (d : ArcCell). (let l : Link = record { cell = length cells; attribute = d.attribute; to = d.to } in l) ∷ links (cells ++ new ∷ []) cs) (get_or-append_seam cells new [] no_cell)
     ∙ ap (λ ls. (let l : Link = record { cell = length cells; attribute = new.attribute; to = new.to } in l) ∷ ls) (links_kept cells new cs b)
@@ -105,7 +106,7 @@ front_places ms cells k new i l e =
     let link : Link = record { cell = n; attribute = new.attribute; to = new.to } in
     let p : PlaceMarks = record (place_of cells (mark_at ms k)) { added = link ∷ (place_of cells (mark_at ms k)).added } in
     let i' = linked_front ms cells k new i l e in
-    let below : (j c : ℕ) → IsCellIn (i.lists j) c → c < n = λ j c. list_below cells (first_of (mark_at ms j).added) (i.lists j) c (i.each j) in
+    let below : (j c : ℕ) → IsIn (i.lists j) c → c < n = λ j c. list_below cells (first_of (mark_at ms j).added) (i.lists j) c (i.each j) in
     let lm : length (map (place_of cells) ms) ≡ length ms = length-map ms (place_of cells) in
     let ls : length ms' ≡ length ms = length-set ms k m in
     ext_get_or unmarked (map (place_of cells') ms') (set (map (place_of cells) ms) k p) (length-map ms' (place_of cells') ∙ (ls ∙ (sym lm ∙ sym (length-set (map (place_of cells) ms) k p))))

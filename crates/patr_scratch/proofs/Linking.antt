@@ -1,12 +1,13 @@
 -- Lists of linked cells.
-use Rattle.std.proofs.Common.{◌≡◌, ◌≢◌, ℕ, zero, suc, ◌<◌, ◌≤◌, ◌⊎◌, inl, inr, Bool, true, false, cond, nat_eq, Option, Some, None, List, [], ◌∷◌, ◌++◌, length, length-append, length-set, get_or-set_other, get_or-set_same, refl, sym, ap, ◌∙◌, subst, arith, eq-eqb, ne_eqb}
+use Rattle.std.proofs.Common.{◌≡◌, ◌≢◌, ℕ, zero, suc, ◌<◌, ◌≤◌, inl, inr, cond, Option, Some, None, List, [], ◌∷◌, ◌++◌, length, length-append, length-set, get_or-set_other, get_or-set_same, refl, sym, ap, ◌∙◌, subst, arith, eq-eqb, ne_eqb}
 use Rattle.std.proofs.lemmas.Bool.{cases_eq}
 use Rattle.std.proofs.lemmas.List.{get_or_append_left}
 use Rattle.std.proofs.Math.Seq.{get_or-append_seam}
+use Rattle.patr_lists.specs.Members.{IsIn, NoRepeats}
 use Rattle.patr_scratch.specs.declared.arc.ArcCell.{ArcCell}
 use Rattle.patr_scratch.specs.Cells.{no_cell, cell_at, relink, link_at, read}
 use Rattle.patr_scratch.specs.Contents.{Link, first_cell, from_cell, after, HasCell, EndsOrHas}
-use Rattle.patr_scratch.specs.Linked.{IsList, IsCellIn, NoCellTwice, LastIs}
+use Rattle.patr_scratch.specs.Linked.{IsList, LastIs}
 
 -- a new cell leaves the lists that were there
 pub list_kept : (cells : List ArcCell) (new : ArcCell) (first : Option ℕ) (cs : List ℕ) → IsList cells first cs → IsList (cells ++ new ∷ []) first cs
@@ -22,7 +23,7 @@ list_front cells new cs h =
     (refl, omega (arith, length-append cells (new ∷ [])), subst (λ (d : ArcCell). IsList (cells ++ new ∷ []) d.next cs) (sym e) (list_kept cells new new.next cs h))
 
 -- a list without the cell that is relinked stays
-pub list_apart : (cells : List ArcCell) (last : ℕ) (next : Option ℕ) (first : Option ℕ) (cs : List ℕ) → (IsCellIn cs last → ⊥) → IsList cells first cs → IsList (relink cells last next) first cs
+pub list_apart : (cells : List ArcCell) (last : ℕ) (next : Option ℕ) (first : Option ℕ) (cs : List ℕ) → (IsIn cs last → ⊥) → IsList cells first cs → IsList (relink cells last next) first cs
 list_apart cells last next first [] n h = h
 list_apart cells last next first (c ∷ cs) n h =
     let ne : c ≢ last = λ q. n (inl q) in
@@ -33,7 +34,7 @@ list_apart cells last next first (c ∷ cs) n h =
     )
 
 -- the list that ends with the relinked cell goes on with the other
-pub list_joined : (cells : List ArcCell) (last : ℕ) (next : Option ℕ) (first : Option ℕ) (cs ds : List ℕ) → LastIs cs last → (IsCellIn ds last → ⊥) → IsList cells first cs → IsList cells next ds
+pub list_joined : (cells : List ArcCell) (last : ℕ) (next : Option ℕ) (first : Option ℕ) (cs ds : List ℕ) → LastIs cs last → (IsIn ds last → ⊥) → IsList cells first cs → IsList cells next ds
     → IsList (relink cells last next) first (cs ++ ds)
 list_joined cells last next first [] ds z n h k = absurd z
 list_joined cells last next first (c ∷ []) ds z n h k =
@@ -50,7 +51,7 @@ list_joined cells last next first (c ∷ d ∷ cs) ds z n h k =
       list_joined cells last next (cell_at (relink cells last next) c).next (d ∷ cs) ds z.1 n (subst (λ (q : ArcCell). IsList cells q.next (d ∷ cs)) (sym e) h.2) k,
     )
 
-pub list_below : (cells : List ArcCell) (first : Option ℕ) (cs : List ℕ) (c : ℕ) → IsList cells first cs → IsCellIn cs c → c < length cells
+pub list_below : (cells : List ArcCell) (first : Option ℕ) (cs : List ℕ) (c : ℕ) → IsList cells first cs → IsIn cs c → c < length cells
 list_below cells first [] c h i = absurd i
 list_below cells first (d ∷ cs) c h (inl e) = subst (λ q. q < length cells) e h.1
 list_below cells first (d ∷ cs) c h (inr i) = list_below cells (cell_at cells d).next cs c h.2 i
@@ -60,85 +61,16 @@ pub list_none : (cells : List ArcCell) (first : Option ℕ) (cs : List ℕ) → 
 list_none cells first [] h e = refl
 list_none cells first (c ∷ cs) h e = let bad : Some c ≡ None = sym h.0 ∙ e in cc
 
-pub in_front : (cs ds : List ℕ) (c : ℕ) → IsCellIn cs c → IsCellIn (cs ++ ds) c
-in_front [] ds c h = absurd h
-in_front (e ∷ cs) ds c (inl h) = inl h
-in_front (e ∷ cs) ds c (inr h) = inr (in_front cs ds c h)
-
-pub in_cases : (cs ds : List ℕ) (c : ℕ) → IsCellIn (cs ++ ds) c → IsCellIn cs c ⊎ IsCellIn ds c
-in_cases [] ds c h = inr h
-in_cases (e ∷ cs) ds c (inl h) = inl (inl h)
-in_cases (e ∷ cs) ds c (inr h) = elim (in_cases cs ds c h) [ inl g ↦ inl (inr g) | inr g ↦ inr g ]
-
-pub twice_append : (cs ds : List ℕ) → NoCellTwice cs → NoCellTwice ds → ((c : ℕ) → IsCellIn cs c → IsCellIn ds c → ⊥) → NoCellTwice (cs ++ ds)
-twice_append [] ds h k n = k
-twice_append (c ∷ cs) ds h k n =
-    (λ i. elim (in_cases cs ds c i) [ inl g ↦ h.0 g | inr g ↦ n c (inl refl) g ], twice_append cs ds h.1 k (λ e i j. n e (inr i) j))
-
-pub last_in : (cs : List ℕ) (z : ℕ) → LastIs cs z → IsCellIn cs z
+pub last_in : (cs : List ℕ) (z : ℕ) → LastIs cs z → IsIn cs z
 last_in [] z h = absurd h
 last_in (c ∷ []) z h = inl h
 last_in (c ∷ d ∷ cs) z h = inr (last_in (d ∷ cs) z h.1)
 
-pub last_append : (cs ds : List ℕ) (z : ℕ) → LastIs ds z → (IsCellIn cs z → ⊥) → LastIs (cs ++ ds) z
+pub last_append : (cs ds : List ℕ) (z : ℕ) → LastIs ds z → (IsIn cs z → ⊥) → LastIs (cs ++ ds) z
 last_append [] ds z h n = h
 last_append (c ∷ []) [] z h n = absurd h
 last_append (c ∷ []) (d ∷ ds) z h n = (λ e. n (inl e), h)
 last_append (c ∷ e ∷ cs) ds z h n = (λ q. n (inl q), last_append (e ∷ cs) ds z h (λ i. n (inr i)))
-
--- cells that stand once each, and are below n, are at most n
-without : ℕ → List ℕ → List ℕ
-without k [] = []
-without k (c ∷ cs) = cond (nat_eq c k) cs (c ∷ without k cs)
-
-without_in : (n : ℕ) (cs : List ℕ) (c : ℕ) → IsCellIn (without n cs) c → IsCellIn cs c
-unfolding without
-without_in n [] c h = absurd h
-without_in n (d ∷ cs) c h = go (nat_eq d n) (without_in n cs c) h
-  where
-    go : (b : Bool) → (IsCellIn (without n cs) c → IsCellIn cs c) → IsCellIn (cond b cs (d ∷ without n cs)) c → IsCellIn (d ∷ cs) c
-    go true f h = inr h
-    go false f (inl e) = inl e
-    go false f (inr i) = inr (f i)
-
-without_not : (n : ℕ) (cs : List ℕ) → NoCellTwice cs → IsCellIn (without n cs) n → ⊥
-unfolding without
-without_not n [] o h = h
-without_not n (d ∷ cs) o h = elim (cases_eq d n) [
-  | inl e ↦ o.0 (subst (IsCellIn cs) (sym e) (subst (λ b. IsCellIn (cond b cs (d ∷ without n cs)) n) (eq-eqb d n e) h))
-  | inr ne ↦ elim (pick ne (subst (λ b. IsCellIn (cond b cs (d ∷ without n cs)) n) (ne_eqb d n ne) h)) [ inl q ↦ ne q | inr i ↦ without_not n cs o.1 i ]
-]
-  where
-    pick : d ≢ n → IsCellIn (d ∷ without n cs) n → (d ≡ n) ⊎ IsCellIn (without n cs) n
-    pick ne h = h
-
-without_once : (n : ℕ) (cs : List ℕ) → NoCellTwice cs → NoCellTwice (without n cs)
-unfolding without
-without_once n [] o = tt
-without_once n (d ∷ cs) o = go (nat_eq d n) (without_once n cs o.1)
-  where
-    go : (b : Bool) → NoCellTwice (without n cs) → NoCellTwice (cond b cs (d ∷ without n cs))
-    go true h = o.1
-    go false h = (λ i. o.0 (without_in n cs d i), h)
-
-without_length : (n : ℕ) (cs : List ℕ) → length cs ≤ suc (length (without n cs))
-unfolding without
-without_length n [] = omega arith
-without_length n (d ∷ cs) = go (nat_eq d n) (without_length n cs)
-  where
-    go : (b : Bool) → length cs ≤ suc (length (without n cs)) → length (d ∷ cs) ≤ suc (length (cond b cs (d ∷ without n cs)))
-    go true h = omega arith
-    go false h = omega arith
-
-pub short : (n : ℕ) (cs : List ℕ) → NoCellTwice cs → ((c : ℕ) → IsCellIn cs c → c < n) → length cs ≤ n
-short zero [] o h = omega arith
-short zero (c ∷ cs) o h = let bad = h c (inl refl) in absurd (omega (arith, bad))
-short (suc n) cs o h =
-    let rest = short n (without n cs) (without_once n cs o) (λ c i.
-    let below : c < suc n = h c (without_in n cs c i) in
-    let ne : c ≢ n = λ e. without_not n cs o (subst (IsCellIn (without n cs)) e i) in
-    omega arith) in
-    omega (arith, rest, without_length n cs)
 
 -- the arcs of these cells
 abbrev pub links : List ArcCell → List ℕ → List Link
@@ -157,7 +89,7 @@ links_append cells [] ds = refl
 links_append cells (c ∷ cs) ds = ap (λ ls. link_at cells c ∷ ls) (links_append cells cs ds)
 
 -- a new cell leaves the arcs of others
-pub links_kept : (cells : List ArcCell) (new : ArcCell) (cs : List ℕ) → ((c : ℕ) → IsCellIn cs c → c < length cells) → links (cells ++ new ∷ []) cs ≡ links cells cs
+pub links_kept : (cells : List ArcCell) (new : ArcCell) (cs : List ℕ) → ((c : ℕ) → IsIn cs c → c < length cells) → links (cells ++ new ∷ []) cs ≡ links cells cs
 links_kept cells new [] h = refl
 links_kept cells new (c ∷ cs) h =
     let e : cell_at (cells ++ new ∷ []) c ≡ cell_at cells c = get_or_append_left cells (new ∷ []) no_cell c (h c (inl refl)) in
@@ -178,12 +110,12 @@ links_relinked cells last next (c ∷ cs) l =
     ap (λ u. u ∷ links (relink cells last next) cs) (link_relinked cells last next c l) ∙ ap (λ ls. link_at cells c ∷ ls) (links_relinked cells last next cs l)
 
 -- the cells of the arcs
-pub has_cell_in : (cells : List ArcCell) (cs : List ℕ) (c : ℕ) → HasCell (links cells cs) c → IsCellIn cs c
+pub has_cell_in : (cells : List ArcCell) (cs : List ℕ) (c : ℕ) → HasCell (links cells cs) c → IsIn cs c
 has_cell_in cells [] c h = h
 has_cell_in cells (d ∷ cs) c (inl e) = inl e
 has_cell_in cells (d ∷ cs) c (inr h) = inr (has_cell_in cells cs c h)
 
-pub in_has_cell : (cells : List ArcCell) (cs : List ℕ) (c : ℕ) → IsCellIn cs c → HasCell (links cells cs) c
+pub in_has_cell : (cells : List ArcCell) (cs : List ℕ) (c : ℕ) → IsIn cs c → HasCell (links cells cs) c
 in_has_cell cells [] c i = absurd i
 in_has_cell cells (d ∷ cs) c (inl e) = inl e
 in_has_cell cells (d ∷ cs) c (inr h) = inr (in_has_cell cells cs c h)
@@ -197,7 +129,7 @@ after_other : (l : Link) (ls : List Link) (first : Option ℕ) → EndsOrHas ls 
 after_other l ls None h n = refl
 after_other l ls (Some c) h n = ap (λ b. cond b (l ∷ ls) (from_cell ls c)) (ne_eqb l.cell c (λ e. n (subst (HasCell ls) (sym e) h)))
 
-after_first : (ls : List Link) → after ls (first_cell ls) ≡ ls
+pub after_first : (ls : List Link) → after ls (first_cell ls) ≡ ls
 after_first [] = refl
 after_first (l ∷ ls) = ap (λ b. cond b (l ∷ ls) (from_cell ls l.cell)) (eq-eqb l.cell l.cell refl)
 
@@ -210,7 +142,7 @@ wider_has l ls None h = tt
 wider_has l ls (Some c) h = inr h
 
 -- from a cell on, the list is its arc, and then the list from the next cell on
-pub after_cell : (cells : List ArcCell) (first : Option ℕ) (cs : List ℕ) (c : ℕ) → IsList cells first cs → NoCellTwice cs → IsCellIn cs c
+pub after_cell : (cells : List ArcCell) (first : Option ℕ) (cs : List ℕ) (c : ℕ) → IsList cells first cs → NoRepeats cs → IsIn cs c
     → (after (links cells cs) (Some c) ≡ link_at cells c ∷ after (links cells cs) (cell_at cells c).next) × EndsOrHas (links cells cs) (cell_at cells c).next
 after_cell cells first [] c h o i = absurd i
 after_cell cells first (d ∷ cs) c h o (inl e) = subst (λ k. (after (links cells (d ∷ cs)) (Some k) ≡ link_at cells k ∷ after (links cells (d ∷ cs)) (cell_at cells k).next) × EndsOrHas (links cells (d ∷ cs)) (cell_at cells k).next) e (

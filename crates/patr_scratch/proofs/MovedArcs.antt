@@ -2,6 +2,8 @@
 use Rattle.std.proofs.Common.{◌≡◌, ◌≢◌, ℕ, ◌<◌, ◌⊎◌, inl, inr, cond, nat_eq, Option, Some, None, List, [], ◌++◌, length, length-set, map, set, get_or, get_or-set_other, get_or-set_same, refl, sym, ap, ◌∙◌, subst, arith, eq-eqb, ne_eqb, append-nil}
 use Rattle.std.proofs.lemmas.Bool.{cases_eq}
 use Rattle.std.proofs.lemmas.List.{ext_get_or, set-get_or, length-map}
+use Rattle.patr_lists.proofs.Members.{once_append, in_cases}
+use Rattle.patr_lists.specs.Members.{IsIn, NoRepeats}
 use Rattle.patr_scratch.specs.declared.arc.ArcCell.{ArcCell}
 use Rattle.patr_scratch.specs.declared.Place.{Place}
 use Rattle.patr_scratch.specs.declared.Side.{Side}
@@ -12,8 +14,8 @@ use Rattle.patr_scratch.specs.Cells.{no_cell, cell_at, relink, read}
 use Rattle.patr_scratch.specs.WithRoom.{WithRoom}
 use Rattle.patr_scratch.specs.Marks.{mark_at, blank}
 use Rattle.patr_scratch.specs.Contents.{PlaceMarks, Contents, unmarked, slot, HasPlace, marks, put, with_moved}
-use Rattle.patr_scratch.specs.Linked.{first_of, last_or, IsList, IsCellIn, NoCellTwice, LastIs, IsLastOf, IsLinked, place_of, contents_of}
-use Rattle.patr_scratch.proofs.Linking.{links, list_below, list_none, list_apart, list_joined, links_append, links_relinked, last_in, last_append, twice_append, in_cases}
+use Rattle.patr_scratch.specs.Linked.{first_of, last_or, IsList, LastIs, IsLastOf, IsLinked, place_of, contents_of}
+use Rattle.patr_scratch.proofs.Linking.{links, list_below, list_none, list_apart, list_joined, links_append, links_relinked, last_in, last_append}
 use Rattle.patr_scratch.proofs.Views.{read_none, place_at, linked_read, place_is, get_or_any, place_by, with_list}
 
 -- the list of one place goes before that of another
@@ -55,7 +57,7 @@ moved_cases ms lists A B a j n lA lB =
           ]
     ]
 
-last_joined : (cells : List ArcCell) (b : Option Ends) (cs ds : List ℕ) (z : ℕ) → LastIs cs z → IsList cells (first_of b) ds → IsLastOf b ds → ((c : ℕ) → IsCellIn cs c → IsCellIn ds c → ⊥) → LastIs (cs ++ ds) (last_or b z)
+last_joined : (cells : List ArcCell) (b : Option Ends) (cs ds : List ℕ) (z : ℕ) → LastIs cs z → IsList cells (first_of b) ds → IsLastOf b ds → ((c : ℕ) → IsIn cs c → IsIn ds c → ⊥) → LastIs (cs ++ ds) (last_or b z)
 last_joined cells None cs ds z l h k n = subst (λ us. LastIs (cs ++ us) z) (sym (list_none cells None ds h refl)) (subst (λ us. LastIs us z) (sym (append-nil cs)) l)
 last_joined cells (Some e) cs ds z l h k n = last_append cs ds e.last k (λ i. n e.last i (last_in ds e.last k))
 
@@ -74,10 +76,10 @@ linked_moved ms cells A B a i n lA lB e =
     let ms' = moved_marks ms A B a in
     let cells' = relink cells a.last next in
     let lastA : LastIs (i.lists A) a.last = subst (λ o. IsLastOf o (i.lists A)) e (i.last A) in
-    let inA : IsCellIn (i.lists A) a.last = last_in (i.lists A) a.last lastA in
+    let inA : IsIn (i.lists A) a.last = last_in (i.lists A) a.last lastA in
     let listA : IsList cells (Some a.first) (i.lists A) = subst (λ o. IsList cells (first_of o) (i.lists A)) e (i.each A) in
-    let notIn : (j : ℕ) → j ≢ A → IsCellIn (i.lists j) a.last → ⊥ = λ j nj q. nj (sym (i.owned j a.last q) ∙ i.owned A a.last inA) in
-    let disjoint : (c : ℕ) → IsCellIn (i.lists A) c → IsCellIn (i.lists B) c → ⊥ = λ c p q. n (sym (i.owned A c p) ∙ i.owned B c q) in
+    let notIn : (j : ℕ) → j ≢ A → IsIn (i.lists j) a.last → ⊥ = λ j nj q. nj (sym (i.owned j a.last q) ∙ i.owned A a.last inA) in
+    let disjoint : (c : ℕ) → IsIn (i.lists A) c → IsIn (i.lists B) c → ⊥ = λ c p q. n (sym (i.owned A c p) ∙ i.owned B c q) in
     record {
       lists = moved_lists i.lists A B;
       owner = moved_owner i.owner A B;
@@ -102,20 +104,20 @@ linked_moved ms cells A B a i n lA lB e =
         ]
       ];
       once = λ j. elim (moved_cases ms i.lists A B a j n lA lB) [
-        | inl h ↦ subst NoCellTwice (sym h.1) tt
+        | inl h ↦ subst NoRepeats (sym h.1) tt
         | inr g ↦ elim g [
-          | inl h ↦ subst NoCellTwice (sym h.1) (twice_append (i.lists A) (i.lists B) (i.once A) (i.once B) disjoint)
-          | inr h ↦ subst NoCellTwice (sym h.2) (i.once j)
+          | inl h ↦ subst NoRepeats (sym h.1) (once_append (i.lists A) (i.lists B) (i.once A) (i.once B) disjoint)
+          | inr h ↦ subst NoRepeats (sym h.2) (i.once j)
         ]
       ];
       owned = λ j c q. elim (moved_cases ms i.lists A B a j n lA lB) [
-        | inl h ↦ absurd (subst (λ us. IsCellIn us c) h.1 q)
+        | inl h ↦ absurd (subst (λ us. IsIn us c) h.1 q)
         | inr g ↦ elim g [
-          | inl h ↦ elim (in_cases (i.lists A) (i.lists B) c (subst (λ us. IsCellIn us c) h.1 q)) [
+          | inl h ↦ elim (in_cases (i.lists A) (i.lists B) c (subst (λ us. IsIn us c) h.1 q)) [
             | inl r ↦ moved_from i.owner A B c (i.owned A c r) ∙ sym h.0
             | inr r ↦ moved_other i.owner A B c (λ w. n (sym w ∙ i.owned B c r)) ∙ (i.owned B c r ∙ sym h.0)
           ]
-          | inr h ↦ let r : IsCellIn (i.lists j) c = subst (λ us. IsCellIn us c) h.2 q in moved_other i.owner A B c (λ w. h.0 (sym (i.owned j c r) ∙ w)) ∙ i.owned j c r
+          | inr h ↦ let r : IsIn (i.lists j) c = subst (λ us. IsIn us c) h.2 q in moved_other i.owner A B c (λ w. h.0 (sym (i.owned j c r) ∙ w)) ∙ i.owned j c r
         ]
       ];
     }

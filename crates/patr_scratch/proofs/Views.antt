@@ -1,6 +1,7 @@
 -- What a scratch holds, as plain data, by its parts.
 use Rattle.std.proofs.Common.{◌≡◌, ◌≢◌, ℕ, zero, suc, ◌+◌, ◌<◌, Option, Some, None, List, [], ◌∷◌, ◌++◌, length, map, set, get_or, replicate, refl, sym, ap, ◌∙◌, subst, arith}
 use Rattle.std.proofs.lemmas.List.{map-append, length-replicate, replicate-append-replicate, map-set, length-map}
+use Rattle.patr_lists.proofs.Totals.{few_below}
 use Rattle.patr_scratch.specs.declared.arc.ArcCell.{ArcCell}
 use Rattle.patr_scratch.specs.declared.Place.{Place}
 use Rattle.patr_scratch.specs.declared.Side.{Side}
@@ -12,7 +13,7 @@ use Rattle.patr_scratch.specs.WithRoom.{WithRoom}
 use Rattle.patr_scratch.specs.Marks.{mark_at, blank, no_marks}
 use Rattle.patr_scratch.specs.Contents.{Link, PlaceMarks, Contents, unmarked, slot, HasPlace, marks, put, begun, first_cell, after, HasCell, EndsOrHas, IsCell, IsBlank}
 use Rattle.patr_scratch.specs.Linked.{first_of, IsLastOf, IsLinked, place_of, contents_of}
-use Rattle.patr_scratch.proofs.Linking.{links, list_below, short, read_links, links_first, after_cell, has_cell_in}
+use Rattle.patr_scratch.proofs.Linking.{links, list_below, read_links, links_first, after_cell, has_cell_in}
 
 -- a list that begins nowhere is read as empty
 pub read_none : (n : ℕ) (cells : List ArcCell) → read n cells None ≡ []
@@ -31,7 +32,7 @@ place_at cells (m ∷ ms) (suc k) = place_at cells ms k
 -- a list of a place has no more cells than there are
 pub linked_read : (ms : List Mark) (cells : List ArcCell) (i : IsLinked ms cells) (k : ℕ) → read (length cells) cells (first_of (mark_at ms k).added) ≡ links cells (i.lists k)
 linked_read ms cells i k =
-    read_links (length cells) cells (first_of (mark_at ms k).added) (i.lists k) (i.each k) (short (length cells) (i.lists k) (i.once k) (λ c. list_below cells (first_of (mark_at ms k).added) (i.lists k) c (i.each k)))
+    read_links (length cells) cells (first_of (mark_at ms k).added) (i.lists k) (i.each k) (few_below (length cells) (i.lists k) (i.once k) (λ c. list_below cells (first_of (mark_at ms k).added) (i.lists k) c (i.each k)))
 
 -- a place's index tells its side and number
 pub apart_slots : (s t : Side) (m n : ℕ) → (s ≡ t → m ≢ n) → slot s m ≢ slot t n

@@ -1,5 +1,6 @@
 -- How the cells hold the lists of the places.
-use Rattle.std.specs.Prelude.{ℕ, ◌≡◌, ◌≢◌, ◌<◌, ◌⊎◌, Option, Some, None, List, [], ◌∷◌, length, map}
+use Rattle.std.specs.Prelude.{ℕ, ◌≡◌, ◌≢◌, ◌<◌, Option, Some, None, List, [], ◌∷◌, length, map}
+use Rattle.patr_lists.specs.Members.{IsIn, NoRepeats}
 use Rattle.patr_scratch.specs.declared.arc.ArcCell.{ArcCell}
 use Rattle.patr_scratch.specs.declared.Place.{Place}
 use Rattle.patr_scratch.specs.declared.Target.{Target}
@@ -25,16 +26,6 @@ abbrev pub IsList : List ArcCell → Option ℕ → List ℕ → Type 0
 IsList cells first [] = first ≡ None
 IsList cells first (c ∷ cs) = (first ≡ Some c) × (c < length cells) × IsList cells (cell_at cells c).next cs
 
--- the cell is one of these
-abbrev pub IsCellIn : List ℕ → ℕ → Type 0
-IsCellIn [] k = ⊥
-IsCellIn (c ∷ cs) k = (c ≡ k) ⊎ IsCellIn cs k
-
--- no cell stands here twice
-abbrev pub NoCellTwice : List ℕ → Type 0
-NoCellTwice [] = Unit {0}
-NoCellTwice (c ∷ cs) = (IsCellIn cs c → ⊥) × NoCellTwice cs
-
 -- this cell is the last one of these, and stands at no earlier place
 abbrev pub LastIs : List ℕ → ℕ → Type 0
 LastIs [] z = ⊥
@@ -52,8 +43,8 @@ pub record IsLinked (ms : List Mark) (cells : List ArcCell) : Type 0 where
   pub owner : ℕ → ℕ
   pub each : (k : ℕ) → IsList cells (first_of (mark_at ms k).added) (lists k)
   pub last : (k : ℕ) → IsLastOf (mark_at ms k).added (lists k)
-  pub once : (k : ℕ) → NoCellTwice (lists k)
-  pub owned : (k c : ℕ) → IsCellIn (lists k) c → owner c ≡ k
+  pub once : (k : ℕ) → NoRepeats (lists k)
+  pub owned : (k c : ℕ) → IsIn (lists k) c → owner c ≡ k
 
 -- a mark, with the list that its cells hold
 abbrev pub place_of : List ArcCell → Mark → PlaceMarks

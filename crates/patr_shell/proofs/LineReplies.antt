@@ -1,14 +1,13 @@
 -- What a line comes to, by what it is.
 use Rattle.std.proofs.Common.{◌≡◌, ℕ, ◌<◌, Bool, true, false, true≢false, cond, nat_eq, List, [], ◌∷◌, Option, Some, None, length, get_or, refl, sym, ap, ◌∙◌, subst, arith, eqb-true, eq-eqb, MatchBool, Bor, map, codes}
-use Rattle.std.proofs.lemmas.Bool.{false_from_ne_true}
 use Rattle.std.specs.Bool.{Decides}
 use Rattle.std.specs.Option.{option_map, option_and_then}
 use Rattle.std.specs.String.{string_bytes}
+use Rattle.patr_shell.proofs.CommandLine.{not_same}
 use Rattle.patr_model.specs.Bytes.{same_text}
 use Rattle.patr_model.specs.Solved.{solved}
 use Rattle.patr_model.specs.Notations.{lines_with_commands, session_command}
 use Rattle.patr_model.specs.Session.{Numbering, AgreesWith, Grounds, State, Command, Limit, Features, Count, Show, Grammar, Make, Quit, IsSentenceReply, IsWordsReply, IsColonReply, IsCommandReply, begins_with_colon, switch, number_of, line}
-use Rattle.patr_model.proofs.Canonical.{same_is}
 use Rattle.patr_model.proofs.Maps.{some_inj}
 use Rattle.patr_shell.specs.Spoken.{Spoken, grounds, state_seen, command_seen}
 use Rattle.patr_shell.specs.Answering.{AreQuit, IsAnswerToCommand, IsAnswerToWords}
@@ -108,15 +107,12 @@ no_more : (t : Bool) (x : Option Command) → option_and_then session_command x 
 no_more true x e = e
 no_more false x e = refl
 
-differ : (a b : List ℕ) → (a ≡ b → ⊥) → same_text a b ≡ false
-differ a b h = false_from_ne_true (same_text a b) (λ e. h (same_is a b e))
-
 pub two_others : (name value : List ℕ) → (name ≡ codes ":limit" → ⊥) → (name ≡ codes ":features" → ⊥) → (name ≡ codes ":count" → ⊥) → spelled name value ≡ None
 two_others name value a b c =
     ap (λ t. passed t (option_map (λ n. Limit n) (number_of 200000 value)) (cond (same_text name (codes ":features")) (option_map (λ b. Features b) (switch value))
-    (cond (same_text name (codes ":count")) (option_map (λ b. Count b) (switch value)) (cond (same_text name (codes ":show")) (Some (Show value)) (cond (same_text name (codes ":make")) (option_map (λ n. Make n) (number_of 256 value)) None))))) (differ name (codes ":limit") a)
-    ∙ (ap (λ t. passed t (option_map (λ b. Features b) (switch value)) (cond (same_text name (codes ":count")) (option_map (λ b. Count b) (switch value)) (cond (same_text name (codes ":show")) (Some (Show value)) (cond (same_text name (codes ":make")) (option_map (λ n. Make n) (number_of 256 value)) None)))) (differ name (codes ":features") b)
-    ∙ (ap (λ t. passed t (option_map (λ b. Count b) (switch value)) (cond (same_text name (codes ":show")) (Some (Show value)) (cond (same_text name (codes ":make")) (option_map (λ n. Make n) (number_of 256 value)) None))) (differ name (codes ":count") c)
+    (cond (same_text name (codes ":count")) (option_map (λ b. Count b) (switch value)) (cond (same_text name (codes ":show")) (Some (Show value)) (cond (same_text name (codes ":make")) (option_map (λ n. Make n) (number_of 256 value)) None))))) (not_same name (codes ":limit") a)
+    ∙ (ap (λ t. passed t (option_map (λ b. Features b) (switch value)) (cond (same_text name (codes ":count")) (option_map (λ b. Count b) (switch value)) (cond (same_text name (codes ":show")) (Some (Show value)) (cond (same_text name (codes ":make")) (option_map (λ n. Make n) (number_of 256 value)) None)))) (not_same name (codes ":features") b)
+    ∙ (ap (λ t. passed t (option_map (λ b. Count b) (switch value)) (cond (same_text name (codes ":show")) (Some (Show value)) (cond (same_text name (codes ":make")) (option_map (λ n. Make n) (number_of 256 value)) None))) (not_same name (codes ":count") c)
     ∙ later (same_text name (codes ":show")) (same_text name (codes ":make")) (number_of 256 value)))
   where
     later : (t u : Bool) (n : Option ℕ) → passed t (Some (Show value)) (cond u (option_map (λ n. Make n) n) None) ≡ None
@@ -129,7 +125,7 @@ pub one_quit : lines_with_commands.command (codes ":quit" ∷ []) ≡ Some Quit
 one_quit = refl
 
 pub one_other : (name : List ℕ) → (name ≡ codes ":quit" → ⊥) → lines_with_commands.command (name ∷ []) ≡ None
-one_other name h = ap (λ t. passed t (Some Quit) (cond (same_text name (codes ":grammar")) (Some Grammar) None)) (differ name (codes ":quit") h) ∙ later (same_text name (codes ":grammar"))
+one_other name h = ap (λ t. passed t (Some Quit) (cond (same_text name (codes ":grammar")) (Some Grammar) None)) (not_same name (codes ":quit") h) ∙ later (same_text name (codes ":grammar"))
   where
     later : (t : Bool) → option_and_then session_command (cond t (Some Grammar) None) ≡ None
     later true = refl
@@ -137,13 +133,8 @@ one_other name h = ap (λ t. passed t (Some Quit) (cond (same_text name (codes "
 
 pub switch_others : (w : List ℕ) → (w ≡ codes "on" → ⊥) → (w ≡ codes "off" → ⊥) → switch w ≡ None
 switch_others w a b =
-    ap (λ t. cond t (Some true) (cond (same_text w (codes "off")) (Some false) None)) (differ w (codes "on") a)
-    ∙ ap (λ t. cond t (Some false) None) (differ w (codes "off") b)
-
--- a list of no length
-pub empty_list : {X : Type 0} (xs : List X) → length xs ≡ 0 → xs ≡ []
-empty_list [] e = refl
-empty_list (x ∷ xs) e = absurd (omega (arith, e))
+    ap (λ t. cond t (Some true) (cond (same_text w (codes "off")) (Some false) None)) (not_same w (codes "on") a)
+    ∙ ap (λ t. cond t (Some false) None) (not_same w (codes "off") b)
 
 -- there are words, and whether the first begins with a colon
 pub first_word : (items : List (Bor (List ℕ))) (x : Bor (List ℕ)) (words : List (List ℕ)) (r : Bool) → map (λ (w : Bor (List ℕ)). w.now) items ≡ words → 0 < length items → x ≡ get_or items 0 x

@@ -3,6 +3,7 @@ use Rattle.std.proofs.Common.{◌≡◌, ◌<◌, ◌≤◌, ◌-◌, ◌+◌, �
 use Rattle.std.proofs.lemmas.List.{length-take-le, take_all}
 use Rattle.std.specs.Io.KnownBytes.{Appends, Keeps, Consumes, IsAtEnd}
 use Rattle.std.proofs.KnownBytes.{Appends-trans, Consumes-trans}
+use Rattle.patr_lists.proofs.Places.{take_take}
 use Rattle.patr_model.specs.Session.{whole_lines_of}
 use Rattle.patr_model.specs.Run as model
 use Rattle.patr_model.specs.Run.{Ending, Done}
@@ -20,7 +21,7 @@ use Rattle.patr_shell.specs.declared.session.Next.TheVariants.{GoesOn, Ends}
 use Rattle.patr_shell.proofs.Cuts.{lines_of_two}
 use Rattle.patr_shell.proofs.Replying.{quit_longer, answered_kept, begun_of_answered, begun_longer}
 use Rattle.patr_shell.proofs.SessionStanding.{Stands, stands_piece, stands_end, ended_piece, ended_end, begun_piece, begun_end, begun_so_far}
-use Rattle.patr_shell.proofs.SessionTexts.{told, told_all, take_take, most, within_of, within_piece, at_limit_of, past_limit, front_within, front_whole, front_written, front_past, written_whole, written_ended, written_quit, written_past}
+use Rattle.patr_shell.proofs.SessionTexts.{told, told_all, most, within_of, within_piece, at_limit_of, past_limit, front_within, front_whole, front_written, front_past, written_whole, written_ended, written_quit, written_past}
 
 -- a text that is written is a front of each
 pub front_told : (spoken : Spoken) (st : State) (ending : Ending) (start a c : Option (List ℕ)) → IfSome start (λ input. HasWrittenSession spoken st input ending a c) → IfSome start (λ input. HasBegunSession spoken st input a c)

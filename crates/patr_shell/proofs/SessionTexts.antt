@@ -1,5 +1,5 @@
 -- How what was answered makes up the text of a session over a whole input.
-use Rattle.std.proofs.Common.{◌≡◌, ◌<◌, ◌≤◌, ◌-◌, ◌+◌, ℕ, zero, suc, List, [], ◌∷◌, ◌++◌, Option, None, Some, IfSome, Bool, true, false, length, take, drop, leb, refl, sym, ◌∙◌, ap, subst, append_assoc, append-nil, arith, length-append, take-append-drop, inr}
+use Rattle.std.proofs.Common.{◌≡◌, ◌<◌, ◌≤◌, ◌-◌, ◌+◌, ℕ, List, [], ◌∷◌, ◌++◌, Option, None, Some, IfSome, Bool, true, false, length, take, drop, leb, refl, sym, ◌∙◌, ap, subst, append_assoc, append-nil, arith, length-append, take-append-drop, inr}
 use Rattle.std.proofs.lemmas.Bool.Decides.{nat_tests}
 use Rattle.std.proofs.lemmas.List.{take_all, take_at, length-take-le}
 use Rattle.std.specs.Io.KnownBytes.{Appends, Consumes, IsAtEnd}
@@ -37,12 +37,6 @@ pub told_all : (a b : Option (List ℕ)) (bytes : List ℕ) (P : List ℕ → Ty
 told_all None b bytes P read end here = tt
 told_all (Some all) None bytes P read end here = absurd read
 told_all (Some all) (Some rest) bytes P read end here = subst P (sym (read ∙ ap (λ (l : List ℕ). bytes ++ l) end ∙ append-nil bytes)) here
-
-pub take_take : (n m : ℕ) (xs : List ℕ) → n ≤ m → take n (take m xs) ≡ take n xs
-take_take zero m xs within = refl
-take_take (suc n) zero xs within = absurd (omega arith)
-take_take (suc n) (suc m) [] within = refl
-take_take (suc n) (suc m) (x ∷ xs) within = ap (λ (l : List ℕ). x ∷ l) (take_take n m xs (omega arith))
 
 abbrev pub most : ℕ
 most = 16777216

@@ -2,17 +2,18 @@
 use Rattle.std.proofs.Common.{◌≡◌, ℕ, zero, suc, ◌<◌, ◌⊎◌, inl, inr, Bool, true, false, List, [], ◌∷◌, ◌++◌, map, length, Option, Some, None, slice_get, refl, sym, ap, ◌∙◌, arith, subst}
 use Rattle.std.proofs.lemmas.Bool.{cases_eq, cases_lt}
 use Rattle.std.specs.List.{AllByRecursion}
+use Rattle.patr_lists.proofs.Alls.{all_in, all_each}
+use Rattle.patr_lists.specs.Members.{IsIn}
 use Rattle.patr_model.specs.Structure.{Value, Atom, Node, at}
 use Rattle.patr_model.specs.Derivation.{Rules, EntryVariant, entry_variant, Derivation, KeyItem, key, start, end}
-use Rattle.patr_model.specs.Chart.{InChart, IsIn, IsChart, IsAnalysis}
+use Rattle.patr_model.specs.Chart.{InChart, IsChart, IsAnalysis}
 use Rattle.patr_model.specs.Solved.{HasStart, solved}
 use Rattle.patr_model.specs.Text.{canonical}
 use Rattle.patr_model.specs.Session.{Grounds, State, cat_of, look_of, IsKnown, number_before, numbers, Rises, AreAnalyses, ListsAnalyses, CountsEdges, ListsAll, too_long, unknown, too_many, analyses}
 use Rattle.patr_model.proofs.Maps.{some_inj, carries}
 use Rattle.patr_model.proofs.Categories.{least_into}
 use Rattle.patr_model.proofs.Keys.{keys_tell}
-use Rattle.patr_model.proofs.Replies.{Before, member_of}
-use Rattle.patr_model.proofs.Rounds.{all_edges}
+use Rattle.patr_model.proofs.Replies.{Before}
 use Rattle.patr_totality.specs.Laws.{AreReady, HasLeast, SentencesHaveReplies}
 use Rattle.patr_totality.proofs.Charts.{complete_decided, edge_derivation, edge_solvable, edge_least, decide_chart, drops_none, search_variants}
 
@@ -149,11 +150,11 @@ module _ (g : Rules) (cat : ℕ) (made : AreReady g cat) (ws : List ℕ) where
 module _ (s : Grounds) (made : AreReady s.rules (cat_of s)) where
   listed : (ws : List ℕ) (ts : List Derivation) → IsChart (solved s.rules (cat_of s)) s.rules ws ts → (us : List Derivation) × AreAnalyses solved s ws us
   listed ws ts chart =
-      let r = gathered s.rules (cat_of s) made ws ts (λ t h. member_of (InChart (solved s.rules (cat_of s)) s.rules ws) ts t chart.edges h) in (
+      let r = gathered s.rules (cat_of s) made ws ts (λ t h. all_in (InChart (solved s.rules (cat_of s)) s.rules ws) ts t chart.edges h) in (
         r.0,
         record {
           rises = r.1;
-          each = all_edges (IsAnalysis (solved s.rules (cat_of s)) s.rules ws) r.0 r.2;
+          each = all_each (IsAnalysis (solved s.rules (cat_of s)) s.rules ws) r.0 r.2;
           every = λ t a. r.3 t (chart.every t (drops_none s.rules (cat_of s) made ws t a)) a;
         },
       )
@@ -173,7 +174,7 @@ module _ (s : Grounds) (made : AreReady s.rules (cat_of s)) where
   all_listed : (st : State) (ws : List ℕ) (ts : List Derivation) → IsChart (solved s.rules (cat_of s)) s.rules ws ts → (text : List ℕ) × ListsAll solved s st ws text
   all_listed st ws ts chart =
       let us = listed ws ts chart in
-      let whole = λ (t : Derivation) (h : IsIn us.0 t). member_of (IsAnalysis (solved s.rules (cat_of s)) s.rules ws) us.0 t us.1.each h in
+      let whole = λ (t : Derivation) (h : IsIn us.0 t). all_in (IsAnalysis (solved s.rules (cat_of s)) s.rules ws) us.0 t us.1.each h in
       let body = lines_listed st.features 1 us.0 (λ t h. edge_least s.rules (cat_of s) made ws t (drops_none s.rules (cat_of s) made ws t (whole t h))) in
       let tail = counted st.count ws ts chart in
       (_, (us.0, body.0, tail.0, us.1, body.1, tail.1, refl))

@@ -1,13 +1,14 @@
 -- Two values of two structures: both in one.
-use Rattle.std.proofs.Common.{◌≡◌, ℕ, zero, suc, ◌+◌, ◌-◌, ◌<◌, ◌⊎◌, inl, inr, Bool, true, false, cond, nat_eq, nat_lt, List, [], ◌∷◌, ◌++◌, map, length, length-append, get_or, Option, Some, None, refl, sym, ap, ◌∙◌, arith, subst, eq-eqb, ne_eqb, lt-ltb, le-ltb}
+use Rattle.std.proofs.Common.{◌≡◌, ℕ, suc, ◌+◌, ◌-◌, ◌<◌, ◌⊎◌, inl, inr, cond, nat_eq, nat_lt, List, [], ◌∷◌, ◌++◌, map, length, length-append, Option, Some, None, refl, sym, ap, ◌∙◌, arith, subst, eq-eqb, ne_eqb, lt-ltb, le-ltb}
 use Rattle.std.proofs.lemmas.Bool.{cases_eq, cases_lt}
 use Rattle.std.proofs.lemmas.List.{get_or_append_left, get_or-append-add}
+use Rattle.patr_lists.proofs.Places.{below_or_behind}
 use Rattle.patr_model.specs.Structure.{Value, Atom, Node, Arcs, Structure, along, HasDistinct, arc, at, IsBelow, IsStructure, IsValue}
 use Rattle.patr_model.specs.Subsumption.{image, MapsInto, TakesBoth}
 use Rattle.patr_marks.specs.Machine.{own}
 use Rattle.patr_marks.specs.Sides.{shift, shifted}
 use Rattle.patr_marks.proofs.Lists.{along_has, distinct_along}
-use Rattle.patr_marks.proofs.Sides.{along_shifted, has_shifted, below_or_behind}
+use Rattle.patr_marks.proofs.Sides.{along_shifted, has_shifted, distinct_shifted, get_or_map, lower_shifted}
 use Rattle.patr_model.proofs.Maps.{some_inj, maps_transitive, maps_into_longer, maps_into_shorter, carries_arc, below_more_places}
 use Rattle.patr_model.proofs.Steps.{value_longer}
 use Rattle.patr_model.specs.EquationStructures.{Pointed, forked, below_arc, one_place}
@@ -15,30 +16,9 @@ use Rattle.patr_model.proofs.EquationStructures.{at_longer, at_value, empty_stru
 use Rattle.patr_totality.specs.Laws.{HasUnifier, HasNoTaker, UnifiersAreDecided}
 use Rattle.patr_totality.proofs.Work.{unify_in}
 
-get_or_map : (n : ℕ) (S : Structure) (k : ℕ) → get_or (map (shifted n) S) k [] ≡ shifted n (get_or S k [])
-get_or_map n [] k = refl
-get_or_map n (e ∷ S) zero = refl
-get_or_map n (e ∷ S) (suc k) = get_or_map n S k
-
 length_map : (n : ℕ) (S : Structure) → length (map (shifted n) S) ≡ length S
 length_map n [] = refl
 length_map n (e ∷ S) = ap suc (length_map n S)
-
-none_shifted : (n : ℕ) (es : Arcs) (a : ℕ) → along es a ≡ None → along (shifted n es) a ≡ None
-none_shifted n [] a h = refl
-none_shifted n (e ∷ es) a h = go (nat_eq e.attribute a) (none_shifted n es a) h
-  where
-    go : (b : Bool) → (along es a ≡ None → along (shifted n es) a ≡ None) → cond b (Some e.to) (along es a) ≡ None → cond b (Some (shift n e.to)) (along (shifted n es) a) ≡ None
-    go true ih h = cc
-    go false ih h = ih h
-
-distinct_shifted : (n : ℕ) (es : Arcs) → HasDistinct es → HasDistinct (shifted n es)
-distinct_shifted n [] h = tt
-distinct_shifted n (e ∷ es) h = (none_shifted n es e.attribute h.0, distinct_shifted n es h.1)
-
-lower_shifted : (n k : ℕ) (x : Value) → IsBelow k x → IsBelow (n + k) (shift n x)
-lower_shifted n k (Atom c) h = tt
-lower_shifted n k (Node j) h = omega (arith, h)
 
 -- the places n on, of those below m
 forth : ℕ → ℕ → ℕ → Option Value

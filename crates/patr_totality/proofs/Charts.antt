@@ -2,20 +2,22 @@
 use Rattle.std.proofs.Common.{◌≡◌, ◌≢◌, ℕ, zero, suc, ◌+◌, ◌<◌, ◌≤◌, ◌⊎◌, inl, inr, List, [], ◌∷◌, length, get_or, Option, Some, None, option_and_then, slice_get, refl, sym, ap, ◌∙◌, arith, subst}
 use Rattle.std.proofs.lemmas.Bool.{cases_eq, cases_lt}
 use Rattle.std.proofs.lemmas.Option.{slice_get_within, get_or_from_slice_get}
+use Rattle.patr_lists.proofs.Places.{get_there}
+use Rattle.patr_lists.proofs.Alls.{all_in, all_each}
+use Rattle.patr_lists.specs.Members.{NoRepeats, IsIn}
 use Rattle.patr_model.specs.Structure.{Value, Structure, arc}
 use Rattle.patr_model.specs.Category.{category, AreCompatible}
 use Rattle.patr_model.specs.Derivation.{Rules, RuleVariant, EntryVariant, Derivation, Leaf, Begin, Extend, entry_variant, rule_variant, root_rule, seen, start, end, size, IsPartial, IsComplete}
-use Rattle.patr_model.specs.Chart.{InChart, IsIn, EachOnce, IsChart, HasMoreThan, IsDerivation, HasGround}
+use Rattle.patr_model.specs.Chart.{InChart, IsChart, HasMoreThan, IsDerivation, HasGround}
 use Rattle.patr_model.specs.Solution.{IsSolvable, IsLeastValue}
 use Rattle.patr_model.specs.Solved.{IsMother, MayFollow, solved}
 use Rattle.patr_model.specs.Laws.{HaveLeastValues}
 use Rattle.patr_model.proofs.Maps.{some_inj, and_then_some}
-use Rattle.patr_model.proofs.Steps.{slot_there, solves_count, partial_or_complete}
+use Rattle.patr_model.proofs.Steps.{solves_count, partial_or_complete}
 use Rattle.patr_model.proofs.Prediction.{slot_of_least, prediction_drops_none}
 use Rattle.patr_model.proofs.PlainChart.{plain_in_solved, solved_in_plain}
 use Rattle.patr_model.proofs.Categories.{slot_category_is_one, category_is_one}
-use Rattle.patr_model.proofs.Replies.{member_of}
-use Rattle.patr_model.proofs.Rounds.{all_edges, rounds}
+use Rattle.patr_model.proofs.Rounds.{rounds}
 use Rattle.patr_totality.specs.Laws.{AreReady, HasLeast, IsWholeChart, ChartsAreDecided, PredictionDropsNone, PlainChartsAreSolved}
 use Rattle.patr_totality.proofs.Ready.{bare_ready}
 use Rattle.patr_totality.proofs.Least.{decide_least}
@@ -144,7 +146,7 @@ module _ (g : Rules) where
   slot_at a part l k h =
       let s = l.2.solution in
       let count = solves_count g a s.0 s.2.slots part.0 part.1 s.2.solves in
-      let v = slot_there s.2.slots k (omega (arith, count, part.2, h)) in
+      let v = get_there s.2.slots k (omega (arith, count, part.2, h)) in
       let x = slot_of_least g a part l.0 l.1 l.2 s.0 s.2.slots s.2.structure s.2.solves k v.0 v.1 in
       (x.0, x.1)
 
@@ -354,11 +356,11 @@ module _ (g : Rules) (cat : ℕ) (made : AreReady g cat) (ws : List ℕ) where
     from_ground t (HasGround.extended a p h part hp full q edge) = InChart.extended a p (edges a h) part (edges p hp) full q edge
 
   -- one edge after another, until there are more than n or all
-  more : (n m : ℕ) (all : List Derivation) → EachOnce all → ((t : Derivation) → IsIn all t → Edge t) → n < m + length all → HasMoreThan (solved g cat) g ws n ⊎ ((ts : List Derivation) × IsChart (solved g cat) g ws ts)
-  more n zero all once edges h = inl (inl (all, once, all_edges Edge all edges, omega (arith, h)))
+  more : (n m : ℕ) (all : List Derivation) → NoRepeats all → ((t : Derivation) → IsIn all t → Edge t) → n < m + length all → HasMoreThan (solved g cat) g ws n ⊎ ((ts : List Derivation) × IsChart (solved g cat) g ws ts)
+  more n zero all once edges h = inl (inl (all, once, all_each Edge all edges, omega (arith, h)))
   more n (suc m) all once edges h = elim (closed_or_found all edges) [
     | inl f ↦ more n m (f.0 ∷ all) (f.2, once) (λ t i. elim i [ inl e ↦ subst Edge e (from_ground all edges f.0 f.1) | inr j ↦ edges t j ]) (omega (arith, h))
-    | inr closed ↦ inr (all, record { once = once; edges = all_edges Edge all edges; every = closed })
+    | inr closed ↦ inr (all, record { once = once; edges = all_each Edge all edges; every = closed })
   ]
 
   whole : (n : ℕ) (ts : List Derivation) → IsChart (solved g cat) g ws ts
@@ -366,7 +368,7 @@ module _ (g : Rules) (cat : ℕ) (made : AreReady g cat) (ws : List ℕ) where
   whole n ts chart = elim (cases_lt n (length ts)) [
     | inl h ↦ inl (inl (ts, chart.once, chart.edges, h))
     | inr h ↦ elim (search_in (HasMoreThan (solved g cat) g ws n) (λ t. size t ≤ n) ts (λ t i. elim (cases_lt n (size t)) [
-      | inl big ↦ inl (inr (t, member_of Edge ts t chart.edges i, big))
+      | inl big ↦ inl (inr (t, all_in Edge ts t chart.edges i, big))
       | inr small ↦ inr small
     ])) [
       | inl big ↦ inl big

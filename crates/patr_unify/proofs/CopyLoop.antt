@@ -1,13 +1,14 @@
 -- Where the copy's loop begins, and why it ends.
 use Rattle.std.proofs.Common.{◌≡◌, ◌≢◌, ℕ, zero, suc, ◌+◌, ◌*◌, ◌<◌, inl, inr, List, [], ◌∷◌, ◌++◌, length, length-append, refl, sym, ap, ◌∙◌, subst, arith}
 use Rattle.std.proofs.lemmas.Bool.{cases_eq}
+use Rattle.patr_lists.proofs.Totals.{total_change, upto_once, upto_in, total_ext}
+use Rattle.patr_lists.specs.Numbers.{total, upto}
 use Rattle.patr_model.specs.Structure.{Value, Node}
-use Rattle.patr_marks.specs.Machine.{Has, total}
+use Rattle.patr_marks.specs.Machine.{Has}
 use Rattle.patr_marks.specs.Settled.{Copy, Copying, IsCopy, IsSparing, all_arcs, base, covered, extend, keep_end, keeps, led_by, new_end, stays, through}
 use Rattle.patr_marks.specs.Settled as marks_settled
 use Rattle.patr_marks.specs.Settled.{IsFinal, follow}
 use Rattle.patr_marks.specs.Sides.{IsSide}
-use Rattle.patr_marks.proofs.Room.{total_change}
 use Rattle.patr_marks.proofs.Growth.{nothing_spares}
 use Rattle.patr_marks.proofs.Reach.{copy_starts}
 use Rattle.patr_arena.specs.Blocks.{OldIsHeld}
@@ -26,9 +27,7 @@ use Rattle.patr_unify.specs.Deciding.{IsEndOfLeft, IsSettledFor}
 use Rattle.patr_unify.specs.Merging.{both}
 use Rattle.patr_unify.specs.Reading.{key, slot_of}
 use Rattle.patr_unify.specs.Walking.{IsVisited, end_value, visit_of}
-use Rattle.patr_unify.specs.Stepping.{upto}
 use Rattle.patr_unify.proofs.Outcomes.{key_below}
-use Rattle.patr_unify.proofs.Running.{total_ext, upto_in, upto_once}
 use Rattle.patr_unify.proofs.Worked.{HasCopied, IsWorked}
 
 -- where the copy begins

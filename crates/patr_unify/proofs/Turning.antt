@@ -1,8 +1,8 @@
 -- The turns of the copy's loop.
 use Rattle.std.proofs.Common.{◌≡◌, ℕ, ◌+◌, ◌<◌, ◌≤◌, inl, inr, None, List, [], ◌∷◌, ◌++◌, length, length-append, map, refl, sym, ap, ◌∙◌, subst, arith}
 use Rattle.std.proofs.lemmas.List.{length-map}
+use Rattle.patr_lists.specs.Members.{IsIn}
 use Rattle.patr_model.specs.Structure.{Value, Node}
-use Rattle.patr_marks.specs.Machine.{IsIn}
 use Rattle.patr_marks.specs.Settled.{IsFinal, IsSettled}
 use Rattle.patr_marks.specs.Sides.{IsSide}
 use Rattle.patr_marks.proofs.Settles.{follow_final}

@@ -1,5 +1,6 @@
 -- What the walk finds.
 use Rattle.std.proofs.Common.{◌≡◌, ℕ, zero, suc, ◌+◌, inl, inr, Bool, true, false, cond, nat_eq, Option, Some, None, List, [], ◌∷◌, drop, refl, sym, ap, ◌∙◌, subst, arith}
+use Rattle.patr_scratch.proofs.Linking.{after_first}
 use Rattle.patr_model.specs.Structure.{Value, Arc, Arcs}
 use Rattle.patr_marks.specs.Machine.{Has}
 use Rattle.patr_marks.specs.Settled.{follow, IsFinal}
@@ -13,7 +14,7 @@ use Rattle.patr_scratch.specs.declared.Visit.{Visit}
 use Rattle.patr_scratch.specs.Contents.{EndsOrHas, HasCell, HasPlace, IsCell, Link, PlaceMarks, Contents, marks, after, first_cell, from_cell}
 use Rattle.patr_unify.specs.Reading.{AreHeld, key, value_at, forward_of, added_of, arcs_at, marks_of, IsEndOf}
 use Rattle.patr_unify.specs.Walking.{end_value, AllEnd, visit_of, HasVisit, IsOther, IsFound, IsFoundAt, IsPassed}
-use Rattle.patr_unify.proofs.Keys.{after_first, first_has, key_marks}
+use Rattle.patr_unify.proofs.Keys.{first_has, key_marks}
 use Rattle.patr_unify.proofs.Merges.{place_room}
 use Rattle.patr_unify.proofs.Pushes.{next_arc}
 use Rattle.patr_unify.proofs.Outcomes.{follow_add}

@@ -22,27 +22,20 @@ loop-left-init g c =
     }
 
 pub settle-requires-clause-left : goal.settle-requires-clause-left
-settle-requires-clause-left g c =
-    let v = g.N.Nodes.shown c.args.nodes.now in
-    (held_pop v c.pop.new.self.items c.in-Some.left c.in-Some.right (subst (PairsAreHeld v) c.in-Some.ensures.items c.loop-left.invariant.pairs_held)).1
+settle-requires-clause-left g c = (held_pop (g.N.Nodes.shown c.args.nodes.now) _ _ _ _ c.in-Some.ensures.items c.loop-left.invariant.pairs_held).1
 
 pub settle-requires-clause-right : goal.settle-requires-clause-right
-settle-requires-clause-right g c =
-    let v = g.N.Nodes.shown c.args.nodes.now in
-    (held_pop v c.pop.new.self.items c.in-Some.left c.in-Some.right (subst (PairsAreHeld v) c.in-Some.ensures.items c.loop-left.invariant.pairs_held)).2
+settle-requires-clause-right g c = (held_pop (g.N.Nodes.shown c.args.nodes.now) _ _ _ _ c.in-Some.ensures.items c.loop-left.invariant.pairs_held).2
 
 pub settle-requires-clause-pairs : goal.settle-requires-clause-pairs
-settle-requires-clause-pairs g c =
-    let v = g.N.Nodes.shown c.args.nodes.now in
-    (held_pop v c.pop.new.self.items c.in-Some.left c.in-Some.right (subst (PairsAreHeld v) c.in-Some.ensures.items c.loop-left.invariant.pairs_held)).0
+settle-requires-clause-pairs g c = (held_pop (g.N.Nodes.shown c.args.nodes.now) _ _ _ _ c.in-Some.ensures.items c.loop-left.invariant.pairs_held).0
 
 pub returns-then-not-branch : goal.returns-then-not-branch
 returns-then-not-branch g c =
     let v = g.N.Nodes.shown c.args.nodes.now in
     let s = g.met.N.Nodes.lawful c.args.nodes.now in
     let below = value_below v s c.args.to c.requires.to in
-    let on = last_first v s (images_at v c.loop-left.images) (value_of v c.args.from) (value_of v c.args.to) below c.pop.new.self.items c.in-Some.left c.in-Some.right
-    (subst (λ (ps : List (Value × Value)). IsOnPairs v.structure (value_of v c.args.from) v.structure (value_of v c.args.to) (images_at v c.loop-left.images) (pairs_at v ps)) c.in-Some.ensures.items c.loop-left.invariant.pairs) in
+    let on = last_first v s (images_at v c.loop-left.images) (value_of v c.args.from) (value_of v c.args.to) below _ _ _ _ c.in-Some.ensures.items c.loop-left.invariant.pairs in
     let refused = subst (IsSettled v c.loop-left.images c.settle.new.images c.in-Some.left c.in-Some.right c.pop.new.self.items c.settle.new.waiting.items) c.if-not-branch.true c.in_ok-settle.ensures in
     ((λ t. absurd (not_so t)), (λ m. absurd (refused (value_of v c.args.from) (value_of v c.args.to) below on m)))
 
@@ -51,8 +44,7 @@ loop-left-preserved g c =
     let v = g.N.Nodes.shown c.args.nodes.now in
     let s = g.met.N.Nodes.lawful c.args.nodes.now in
     let below = value_below v s c.args.to c.requires.to in
-    let on = last_first v s (images_at v c.loop-left.images) (value_of v c.args.from) (value_of v c.args.to) below c.pop.new.self.items c.in-Some.left c.in-Some.right
-    (subst (λ (ps : List (Value × Value)). IsOnPairs v.structure (value_of v c.args.from) v.structure (value_of v c.args.to) (images_at v c.loop-left.images) (pairs_at v ps)) c.in-Some.ensures.items c.loop-left.invariant.pairs) in
+    let on = last_first v s (images_at v c.loop-left.images) (value_of v c.args.from) (value_of v c.args.to) below _ _ _ _ c.in-Some.ensures.items c.loop-left.invariant.pairs in
     let looked = subst (IsSettled v c.loop-left.images c.settle.new.images c.in-Some.left c.in-Some.right c.pop.new.self.items c.settle.new.waiting.items) c.if-not-branch.false c.in_ok-settle.ensures in
     record {
       pairs = looked.pairs (value_of v c.args.from) (value_of v c.args.to) below on;

@@ -1,6 +1,7 @@
 use Rattle.std.proofs.Common.{subst}
+use Rattle.std.proofs.lemmas.Option.{slice_get_within}
 use Rattle.patr_canon.specs.Items.{IsSymbolFront}
-use Rattle.patr_canon.proofs.ItemFronts.{arc_none, arc_cut, arc_is, text_below}
+use Rattle.patr_canon.proofs.ItemFronts.{arc_none, arc_cut, arc_is}
 use Rattle.patr_canon.proofs.items.arc.Goals as goal
 
 pub returns-in_default-clause-item : goal.returns-in_default-clause-item
@@ -20,4 +21,4 @@ returns-clause-item c =
 pub returns-clause-spelled : goal.returns-clause-spelled
 returns-clause-spelled c =
     let front = subst (IsSymbolFront c.symbol_front.new.symbols c.args.text.now) c.in-Some.is c.in_ok-attribute.ensures.front in
-    text_below c.symbol_front.new.symbols c.in-Some.attribute.0 front.0 front.1
+    slice_get_within c.symbol_front.new.symbols c.in-Some.attribute.0 front.0 front.1

@@ -1,6 +1,7 @@
 use Rattle.std.proofs.Common.{subst}
+use Rattle.std.proofs.lemmas.Option.{slice_get_within}
 use Rattle.patr_canon.specs.Items.{IsSymbolFront}
-use Rattle.patr_canon.proofs.ItemFronts.{opening_item, numbered_item, atom_item, atom_none, text_below}
+use Rattle.patr_canon.proofs.ItemFronts.{opening_item, numbered_item, atom_item, atom_none}
 use Rattle.patr_canon.proofs.items.value_item.Goals as goal
 
 pub returns-in-Some-clause-item : goal.returns-in-Some-clause-item
@@ -22,4 +23,4 @@ returns-clause-item c = λ l is d x left f fits e.
 pub returns-clause-spelled : goal.returns-clause-spelled
 returns-clause-spelled c =
     let front = subst (IsSymbolFront c.symbol_front.new.symbols c.args.text.now) c.in-Some-2.is c.in_ok-atom.ensures.front in
-    text_below c.symbol_front.new.symbols c.in-Some-2.atom.0 front.0 front.1
+    slice_get_within c.symbol_front.new.symbols c.in-Some-2.atom.0 front.0 front.1

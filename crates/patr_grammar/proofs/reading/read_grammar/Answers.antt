@@ -5,6 +5,7 @@ use Rattle.std.proofs.Math.Seq.{take-length}
 use Rattle.std.proofs.lemmas.List.{length-map}
 use Rattle.std.proofs.lemmas.Result.{IfOk-weaker}
 use Rattle.std.proofs.lemmas.Str.{IsCharBoundary-start}
+use Rattle.patr_model.proofs.Renaming.{each_length}
 use Rattle.patr_model.specs.Faults.{StopsUtf8}
 use Rattle.patr_model.specs.Renaming.{Each}
 use Rattle.patr_model.specs.Tokens.{scan, start_place, tokens_of}
@@ -15,7 +16,6 @@ use Rattle.patr_grammar.specs.Reading.{StandsFor, IsRefusedFor}
 use Rattle.patr_grammar.specs.Views.{IsSpelled, IsLexeme}
 use Rattle.patr_grammar.proofs.Meanings.{answered}
 use Rattle.patr_grammar.proofs.Spelled.{spelled_in_order, bytes_within_text, count_in_order}
-use Rattle.patr_grammar.proofs.Tables.{each_length}
 use Rattle.patr_grammar.proofs.reading.read_grammar.Goals as goal
 
 stops : (bytes : List ℕ) (n : ℕ) → IsValidUpTo bytes n → StopsUtf8 bytes n

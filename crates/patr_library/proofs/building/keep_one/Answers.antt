@@ -1,13 +1,14 @@
 use Rattle.std.proofs.Common.{◌≡◌, ◌∙◌, ap, subst, rules}
 use Rattle.std.specs.List.{AllByRecursion}
+use Rattle.patr_lists.proofs.Places.{get_there}
 use Rattle.patr_arena.specs.Arenas.{shown_of}
 use Rattle.patr_library.specs.Built.{AreRulesDealt, StaysWithin, numbered, numbered_from}
-use Rattle.patr_library.proofs.KeptRules.{numbered_is, there, variants_within}
+use Rattle.patr_library.proofs.KeptRules.{numbered_is, variants_within}
 use Rattle.patr_library.proofs.building.keep_one.Goals as goal
 
 pub keep_variants-requires : goal.keep_variants-requires
 keep_variants-requires c =
-    let r = there c.args.grammar.now.rules.items c.args.rule c.requires in
+    let r = get_there c.args.grammar.now.rules.items c.args.rule c.requires in
     let same : c.in_ok-variants.variants.items ≡ c.deref.result.now = search rules in
     subst (AllByRecursion StaysWithin) same (variants_within r.0 c.in_ok-variants.variants.items (c.in_ok-variants.ensures.expanded r.0 r.1).variants)
 

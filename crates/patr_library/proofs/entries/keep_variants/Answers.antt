@@ -1,10 +1,11 @@
 use Rattle.std.proofs.Common.{◌≡◌, ◌∙◌, ◌++◌, ◌∷◌, [], length, length-append, map, refl, sym, ap, subst, rules, arith, append_assoc, append-nil}
 use Rattle.std.specs.Vec.Iter.{into_iter_items, into_iter_len}
+use Rattle.std.proofs.lemmas.List.{nil_from_length}
 use Rattle.patr_arena.specs.Arenas.{shown_of}
 use Rattle.patr_library.specs.Built.{numbered_from}
 use Rattle.patr_library.specs.Entries.{AreEntriesDealt, HasEntryItem, HasNoEntry, StaysAlone, variant_of}
 use Rattle.patr_library.proofs.Keeping.{none_dealt, one_dealt}
-use Rattle.patr_library.proofs.KeptEntries.{among, entry_still, nothing_left, variant_more}
+use Rattle.patr_library.proofs.KeptEntries.{among, entry_still, variant_more}
 use Rattle.patr_library.proofs.entries.keep_variants.Goals as goal
 
 pub loop-features-init : goal.loop-features-init
@@ -51,6 +52,6 @@ pub returns : goal.returns
 returns c =
     let at = c.loop-features in
     let none = c.in-None.ensures.steps in
-    let empty : into_iter_items at.features-iterator ≡ [] = nothing_left _ (sym at.invariant.3 ∙ none.0) in
+    let empty : into_iter_items at.features-iterator ≡ [] = nil_from_length _ (sym at.invariant.3 ∙ none.0) in
     let all = sym (append-nil at.yielded) ∙ rw empty at at.invariant.0 ∙ c.into_iter-features-iterator.ensures.into_iter_gives.0 in
     subst (λ l. AreEntriesDealt (shown_of c.args.arena.now) (shown_of at.arena) (numbered_from c.args.number 0 (map (variant_of c.args.entry.now) l)) c.args.items.now.items at.items.items) all at.invariant.1

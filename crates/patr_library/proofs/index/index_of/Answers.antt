@@ -1,8 +1,8 @@
 use Rattle.std.proofs.Common.{◌∙◌, arith}
-use Rattle.patr_library.specs.Lists.{numbers}
 use Rattle.patr_library.proofs.Listing.{index_next}
 use Rattle.patr_library.proofs.index.index_of.Goals as goal
 
 pub loop-place-preserved : goal.loop-place-preserved
 loop-place-preserved c =
-    λ s. index_next c.args.keys.now c.loop-place.place _ (numbers c.grow.new.lists.items) (numbers c.put.new.lists.items) s (omega (arith, c.loop-place-test.true)) c.in_ok-grow.ensures.long c.in_ok-put.ensures (c.in_ok-grow.ensures.same s ∙ c.loop-place.invariant s)
+    λ s. index_next c.args.keys.now c.loop-place.place _ c.grow.new.self c.put.new.self s (omega (arith, c.loop-place-test.true)) c.in_ok-grow.ensures.long
+    (rw c.if-not-put.false at c.put.ensures) (c.in_ok-grow.ensures.same s ∙ c.loop-place.invariant s)

@@ -1,7 +1,7 @@
 use Rattle.std.proofs.Common.{◌≡◌, ℕ, [], get_or, take}
-use Rattle.patr_model.specs.Numbered.{places}
-use Rattle.patr_library.specs.Lists.{numbers, has_key}
+use Rattle.patr_lists.specs.Numbers.{places}
+use Rattle.patr_library.specs.Lists.{has_key}
 use Rattle.patr_library.proofs.index.index_of.Given as goal
 
 abbrev pub invariant-loop-place : goal.invariant-loop-place
-invariant-loop-place l = (s : ℕ) → get_or (numbers l.lists.items) s [] ≡ places (has_key s) 0 (take l.place l.keys)
+invariant-loop-place l = (s : ℕ) → get_or l.lists s [] ≡ places (has_key s) 0 (take l.place l.keys)

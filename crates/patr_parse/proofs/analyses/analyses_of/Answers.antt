@@ -2,8 +2,8 @@ use Rattle.std.proofs.Common.{◌≡◌, ℕ, ◌∙◌, List, length, map, sym,
 use Rattle.std.specs.List.Sorted.{IsSorted}
 use Rattle.std.proofs.lemmas.List.{length-map}
 use Rattle.std.proofs.lemmas.Result.{IfOk-weaker}
+use Rattle.patr_lists.specs.Numbers.{places}
 use Rattle.patr_text.specs.declared.symbols.Id.{Id}
-use Rattle.patr_model.specs.Numbered.{places}
 use Rattle.patr_model.proofs.StatedCategories.{are_built}
 use Rattle.patr_arena.specs.Paths.{ids}
 use Rattle.patr_arena.specs.Views.{view_of}

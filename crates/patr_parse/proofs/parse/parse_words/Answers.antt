@@ -1,5 +1,6 @@
 use Rattle.std.proofs.Common.{◌≡◌, ℕ, List, map, Bor, length, refl, sym, ap, ◌∙◌, subst, arith}
 use Rattle.std.proofs.lemmas.List.{length-map}
+use Rattle.patr_model.proofs.Renaming.{each_length}
 use Rattle.patr_text.specs.declared.symbols.Id.{Id}
 use Rattle.patr_arena.specs.Blocks.{Extends}
 use Rattle.patr_arena.specs.Paths.{ids}
@@ -12,7 +13,6 @@ use Rattle.patr_parse.specs.Closing.{IsClosed}
 use Rattle.patr_parse.specs.Found.{AreSound}
 use Rattle.patr_parse.specs.Tasks.{judge}
 use Rattle.patr_parse.proofs.Growing.{extends_same}
-use Rattle.patr_parse.proofs.Sound.{same_length}
 use Rattle.patr_parse.proofs.parse.parse_words.Goals as goal
 
 pub close-closed-requires-clause-base : goal.close-closed-requires-clause-base
@@ -28,7 +28,7 @@ pub close-closed-requires-clause-words : goal.close-closed-requires-clause-words
 close-closed-requires-clause-words g c =
     let known = c.in-Ok.ensures.numbers in
     let short = known.short in
-    let same = same_length _ (map (λ (w : Bor (List ℕ)). w.now) c.args.words.now) (ids c.in-Ok.numbers.items) known.are in
+    let same = each_length _ (map (λ (w : Bor (List ℕ)). w.now) c.args.words.now) (ids c.in-Ok.numbers.items) known.are in
     omega (arith, short, same, length-map c.in-Ok.numbers.items (λ (a : Id). a.0), ap length c.deref.ensures.value)
 
 pub returns-in_default-clause-refused : goal.returns-in_default-clause-refused
@@ -60,7 +60,7 @@ pub analyses_of-requires-clause-short : goal.analyses_of-requires-clause-short
 analyses_of-requires-clause-short g c =
     let known = c.in-Ok.ensures.numbers in
     let short = known.short in
-    let same = same_length _ (map (λ (w : Bor (List ℕ)). w.now) c.args.words.now) (ids c.in-Ok.numbers.items) known.are in
+    let same = each_length _ (map (λ (w : Bor (List ℕ)). w.now) c.args.words.now) (ids c.in-Ok.numbers.items) known.are in
     omega (arith, short, same, length-map c.in-Ok.numbers.items (λ (a : Id). a.0), ap length c.deref-2.ensures.value)
 
 pub analyses_of-requires-clause-edges : goal.analyses_of-requires-clause-edges

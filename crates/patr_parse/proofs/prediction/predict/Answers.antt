@@ -1,4 +1,5 @@
 use Rattle.std.proofs.Common.{◌≡◌, ◌∙◌, ◌++◌, ◌≤◌, ◌+◌, ◌<◌, ℕ, List, [], length, map, take, true, refl, sym, ap, append_assoc, append-nil, length-append, subst, arith}
+use Rattle.patr_lists.proofs.Places.{get_there}
 use Rattle.patr_text.specs.declared.symbols.Id.{Id}
 use Rattle.patr_model.specs.Derivation.{end}
 use Rattle.patr_arena.specs.Sentences.{sentence_of}
@@ -9,7 +10,6 @@ use Rattle.patr_parse.specs.Tasks.{judge, IsReady}
 use Rattle.patr_parse.specs.Standing.{Stands}
 use Rattle.patr_parse.specs.Begun.{begun_by, next_of, ArePushed}
 use Rattle.patr_parse.specs.Predicting.{ArePredicted, IsMarked}
-use Rattle.patr_parse.proofs.Tasks.{get_there}
 use Rattle.patr_parse.proofs.Added.{stands_new, passes_new}
 use Rattle.patr_parse.proofs.Predicting.{followed_new, followed_predicted, no_pair_followed, predicted_all}
 use Rattle.patr_parse.proofs.Ready.{ready_more, front_stays}

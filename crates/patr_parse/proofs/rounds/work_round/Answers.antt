@@ -1,5 +1,6 @@
 use Rattle.std.proofs.Common.{◌≡◌, ◌<◌, ◌++◌, ◌+◌, true, false, length, take, sym, ap, ◌∙◌, subst, arith, rules}
 use Rattle.std.proofs.Math.Seq.{take-length}
+use Rattle.patr_arena.proofs.Showing.{extends_on}
 use Rattle.patr_model.specs.Solution.{IsSolvable}
 use Rattle.patr_model.specs.Rounds.{HasPairs}
 use Rattle.patr_arena.specs.Sentences.{sentence_of}
@@ -7,7 +8,7 @@ use Rattle.patr_chart.specs.Charted.{partners, derivations}
 use Rattle.patr_library.specs.Stored.{rules_of}
 use Rattle.patr_parse.specs.Tasks.{judge}
 use Rattle.patr_parse.specs.Standing.{Stands, MayBePushed}
-use Rattle.patr_parse.proofs.Growing.{ready_still, extends_on}
+use Rattle.patr_parse.proofs.Growing.{ready_still}
 use Rattle.patr_parse.proofs.Standing.{stands_task, task_pushed, passes_made, passes_large}
 use Rattle.patr_parse.proofs.Paired.{partners_few}
 use Rattle.patr_parse.proofs.Tasks.{trees_length}

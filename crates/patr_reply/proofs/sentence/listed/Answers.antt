@@ -1,11 +1,13 @@
 use Rattle.std.proofs.Common.{◌<◌, ◌++◌, [], length, take, codes, decimal, sym, ap, ◌∙◌, arith, append-nil}
 use Rattle.std.specs.String.{string_bytes}
+use Rattle.std.proofs.Math.Seq.{take-length}
+use Rattle.patr_lists.proofs.Alls.{all_get}
 use Rattle.patr_model.specs.Session.{line}
 use Rattle.patr_model.specs.Table.{table_look}
 use Rattle.patr_library.specs.Stored.{rules_of}
 use Rattle.patr_reply.specs.Lines.{analysis_lines, look_by}
 use Rattle.patr_reply.specs.Sources.{IsReady}
-use Rattle.patr_reply.proofs.Listing.{step_listed, take_whole, all_get}
+use Rattle.patr_reply.proofs.Listing.{step_listed}
 use Rattle.patr_reply.proofs.sentence.listed.Goals as goal
 
 pub loop-place-init : goal.loop-place-init
@@ -30,4 +32,4 @@ pub returns : goal.returns
 returns g c = λ names agrees.
     c.loop-place.invariant names agrees
     ∙ ap (λ ns. line (codes "analyses " ++ decimal (length c.args.analyses.now)) ++ analysis_lines (look_by names) (table_look c.args.symbols.now []) (rules_of c.args.library.now) (g.N.Nodes.shown c.args.nodes.now) c.args.chart.now.edges c.args.features 1 ns)
-    (ap (λ n. take n c.args.analyses.now) (omega (arith, c.loop-place-test.false, c.loop-place.auto.place-end)) ∙ take_whole c.args.analyses.now)
+    (ap (λ n. take n c.args.analyses.now) (omega (arith, c.loop-place-test.false, c.loop-place.auto.place-end)) ∙ take-length c.args.analyses.now)

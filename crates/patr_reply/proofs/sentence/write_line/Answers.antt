@@ -1,9 +1,9 @@
 use Rattle.std.proofs.Common.{◌≡◌, ◌++◌, ◌∷◌, [], List, ℕ, codes, decimal}
 use Rattle.std.specs.String.{string_bytes}
+use Rattle.patr_lists.proofs.Results.{if_ok_is}
 use lib.Utf8.{encode}
 use Rattle.patr_model.specs.Text.{tree_text}
 use Rattle.patr_model.specs.Session.{line}
-use Rattle.patr_canon.proofs.Results.{if_ok_is}
 use Rattle.patr_chart.specs.Charted.{tree}
 use Rattle.patr_library.specs.Stored.{rules_of}
 use Rattle.patr_reply.specs.Lines.{look_by}

@@ -1,11 +1,11 @@
 use Rattle.std.proofs.Common.{◌≡◌, ◌<◌, ◌++◌, ◌∷◌, [], length, sym, ap, ◌∙◌, subst}
 use Rattle.std.specs.String.{string_bytes}
 use Rattle.std.proofs.lemmas.Result.{IfOk-weaker}
+use Rattle.patr_lists.proofs.Results.{if_ok_always}
 use Rattle.patr_reply.specs.declared.tree.Step.TheVariants.{Tree, Space}
 use Rattle.patr_reply.specs.Lines.{look_by}
 use Rattle.patr_library.specs.Stored.{rules_of}
 use Rattle.patr_reply.specs.Writing.{root_text, steps_weight, AreHeld, IsWritten}
-use Rattle.patr_canon.proofs.Results.{if_ok_always}
 use Rattle.patr_reply.proofs.TreeText.{root_written, root_falls, parts, parts_written, parts_fall, parts_held}
 use Rattle.patr_reply.proofs.tree.write_next.Goals as goal
 

@@ -1,12 +1,12 @@
 use Rattle.std.proofs.Common.{◌≡◌, ◌<◌, ◌++◌, ◌∷◌, [], codes, IfOk, refl, sym, subst, lit<}
 use Rattle.std.specs.String.{string_bytes}
 use Rattle.std.proofs.lemmas.Result.{IfOk-weaker}
+use Rattle.patr_lists.proofs.Results.{if_ok_always, if_ok_is}
 use lib.Utf8.{encode}
 use Rattle.patr_reply.specs.declared.tree.Step.TheVariants.{Space, Close}
 use Rattle.patr_reply.specs.Lines.{look_by}
 use Rattle.patr_library.specs.Stored.{rules_of}
 use Rattle.patr_reply.specs.Writing.{steps_weight, IsWritten}
-use Rattle.patr_canon.proofs.Results.{if_ok_is, if_ok_always}
 use Rattle.patr_reply.proofs.TreeText.{text_written, step_falls}
 use Rattle.patr_reply.proofs.tree.write_step.Goals as goal
 

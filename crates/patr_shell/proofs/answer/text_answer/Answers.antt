@@ -3,18 +3,19 @@ use Rattle.std.specs.Bool.{Decides}
 use Rattle.std.specs.String.{string_bytes}
 use Rattle.std.proofs.lemmas.Result.{IfOk-weaker}
 use Rattle.std.proofs.lemmas.Str.Pattern.{starts_char}
+use Rattle.std.proofs.lemmas.List.{nil_from_length}
 use Rattle.patr_model.specs.Solved.{solved}
 use Rattle.patr_model.specs.Session.{IsSentenceReply, words_of}
 use Rattle.patr_model.specs.Notations.{lines_with_commands}
 use Rattle.patr_shell.specs.Spoken.{command_seen, grounds, state_seen}
 use Rattle.patr_shell.specs.Answering.{IsAnswerToCommand, IsAnswerToWords}
-use Rattle.patr_shell.proofs.LineReplies.{no_words, sentence_answer, bad_answer, command_answers, first_word, empty_list}
+use Rattle.patr_shell.proofs.LineReplies.{no_words, sentence_answer, bad_answer, command_answers, first_word}
 use Rattle.patr_shell.proofs.answer.text_answer.Goals as goal
 
 pub returns-then-is_empty-clause-answer : goal.returns-then-is_empty-clause-answer
 returns-then-is_empty-clause-answer g c =
     let len : vec_len c.in_ok-words.words ≡ 0 = eqb-true (vec_len c.in_ok-words.words) 0 (sym c.is_empty.ensures ∙ c.if-is_empty.true) in
-    let none : words_of c.args.line.now ≡ [] = sym c.in_ok-words.ensures ∙ ap (map (λ (w : Bor (List ℕ)). w.now)) (empty_list c.in_ok-words.words.items (omega (arith, len, c.in_ok-words.words.ok))) in
+    let none : words_of c.args.line.now ≡ [] = sym c.in_ok-words.ensures ∙ ap (map (λ (w : Bor (List ℕ)). w.now)) (nil_from_length c.in_ok-words.words.items (omega (arith, len, c.in_ok-words.words.ok))) in
     no_words c.args.language.now c.args.state (words_of c.args.line.now) (string_bytes c.new-text.result) none c.new-text.ensures.bytes
 
 pub returns-then-not-starts_with-clause-answer : goal.returns-then-not-starts_with-clause-answer

@@ -1,7 +1,7 @@
 use Rattle.std.proofs.Common.{rules, ◌+◌, ◌*◌, ◌<◌, Bool, length, sym, subst}
-use Rattle.patr_marks.specs.Machine.{total}
+use Rattle.patr_lists.specs.Numbers.{total, upto}
 use Rattle.patr_scratch.specs.Contents.{Contents}
-use Rattle.patr_unify.specs.Stepping.{IsRunning, Outcome, weight_of, upto}
+use Rattle.patr_unify.specs.Stepping.{IsRunning, Outcome, weight_of}
 use Rattle.patr_unify.proofs.Running.{was_pushed, pair_held, still_held, log_there, same_log, running_on, falls_on, clash_refutes}
 use Rattle.patr_unify.proofs.settle.settle_all.Goals as goal
 

@@ -1,6 +1,5 @@
-use Rattle.std.proofs.Common.{◌≡◌, ◌∙◌, ◌-◌, ℕ, List, length, take, drop, ap, arith, rules}
+use Rattle.std.proofs.Common.{◌∙◌, ◌-◌, List, length, take, drop, ap, arith, rules}
 use Rattle.patr_arena.specs.declared.value.Feature.{Feature}
-use Rattle.patr_arena.specs.Cuts.{begin}
 use Rattle.patr_arena.proofs.Cutting.{cut_length, cut_read}
 use Rattle.patr_arena.proofs.block.Block.arcs.Goals as goal
 
@@ -22,29 +21,25 @@ index-end-requires c =
 
 pub slice_bounds-result-count : goal.slice_bounds-result-count
 slice_bounds-result-count c =
-    let start : c.start_of-start.result ≡ begin 0 c.self.inside.ends.items c.args.offset = c.start_of-start.ensures ∙ ap (λ (es : List ℕ). begin 0 es c.args.offset) c.deref.ensures.value in
-    let read = cut_read c.self.inside.features.items c.self.inside.ends.items c.args.self.now c.args.offset c.start_of-start.result c.index-end.result.now c.self.invariant c.self.view_is c.requires start c.index-end.ensures in
+    let read = cut_read c.self.inside.features.items c.self.inside.ends.items c.args.self.now c.args.offset c.start_of-start.result c.index-end.result.now _ c.self.invariant c.self.view_is c.requires c.deref.ensures.value c.start_of-start.ensures c.index-end.ensures in
     read.0
 
 pub slice_bounds-result-start : goal.slice_bounds-result-start
 slice_bounds-result-start c =
-    let start : c.start_of-start.result ≡ begin 0 c.self.inside.ends.items c.args.offset = c.start_of-start.ensures ∙ ap (λ (es : List ℕ). begin 0 es c.args.offset) c.deref.ensures.value in
-    let read = cut_read c.self.inside.features.items c.self.inside.ends.items c.args.self.now c.args.offset c.start_of-start.result c.index-end.result.now c.self.invariant c.self.view_is c.requires start c.index-end.ensures in
+    let read = cut_read c.self.inside.features.items c.self.inside.ends.items c.args.self.now c.args.offset c.start_of-start.result c.index-end.result.now _ c.self.invariant c.self.view_is c.requires c.deref.ensures.value c.start_of-start.ensures c.index-end.ensures in
     let order = read.0 in
     search rules
 
 pub slice_bounds-result-end : goal.slice_bounds-result-end
 slice_bounds-result-end c =
-    let start : c.start_of-start.result ≡ begin 0 c.self.inside.ends.items c.args.offset = c.start_of-start.ensures ∙ ap (λ (es : List ℕ). begin 0 es c.args.offset) c.deref.ensures.value in
-    let read = cut_read c.self.inside.features.items c.self.inside.ends.items c.args.self.now c.args.offset c.start_of-start.result c.index-end.result.now c.self.invariant c.self.view_is c.requires start c.index-end.ensures in
+    let read = cut_read c.self.inside.features.items c.self.inside.ends.items c.args.self.now c.args.offset c.start_of-start.result c.index-end.result.now _ c.self.invariant c.self.view_is c.requires c.deref.ensures.value c.start_of-start.ensures c.index-end.ensures in
     let most = read.1 in
     let same = ap length c.deref-2.ensures.value in
     search rules
 
 pub offset_bounds-deref-start : goal.offset_bounds-deref-start
 offset_bounds-deref-start c =
-    let start : c.start_of-start.result ≡ begin 0 c.self.inside.ends.items c.args.offset = c.start_of-start.ensures ∙ ap (λ (es : List ℕ). begin 0 es c.args.offset) c.deref.ensures.value in
-    let read = cut_read c.self.inside.features.items c.self.inside.ends.items c.args.self.now c.args.offset c.start_of-start.result c.index-end.result.now c.self.invariant c.self.view_is c.requires start c.index-end.ensures in
+    let read = cut_read c.self.inside.features.items c.self.inside.ends.items c.args.self.now c.args.offset c.start_of-start.result c.index-end.result.now _ c.self.invariant c.self.view_is c.requires c.deref.ensures.value c.start_of-start.ensures c.index-end.ensures in
     let order = read.0 in
     let most = read.1 in
     let same = ap length c.deref-2.ensures.value in
@@ -53,6 +48,5 @@ offset_bounds-deref-start c =
 
 pub returns : goal.returns
 returns c =
-    let start : c.start_of-start.result ≡ begin 0 c.self.inside.ends.items c.args.offset = c.start_of-start.ensures ∙ ap (λ (es : List ℕ). begin 0 es c.args.offset) c.deref.ensures.value in
-    let read = cut_read c.self.inside.features.items c.self.inside.ends.items c.args.self.now c.args.offset c.start_of-start.result c.index-end.result.now c.self.invariant c.self.view_is c.requires start c.index-end.ensures in
+    let read = cut_read c.self.inside.features.items c.self.inside.ends.items c.args.self.now c.args.offset c.start_of-start.result c.index-end.result.now _ c.self.invariant c.self.view_is c.requires c.deref.ensures.value c.start_of-start.ensures c.index-end.ensures in
     ap (λ (fs : List Feature). take (c.index-end.result.now - c.start_of-start.result) (drop c.start_of-start.result fs)) c.deref-2.ensures.value ∙ read.2

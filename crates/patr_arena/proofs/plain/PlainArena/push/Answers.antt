@@ -1,30 +1,18 @@
-use Rattle.std.proofs.Common.{◌∙◌, sym, ap, subst}
+use Rattle.std.proofs.Common.{◌∙◌, inl, inr, ap}
 use Rattle.std.proofs.lemmas.Result.{MatchResult-weaker}
-use Rattle.patr_arena.specs.Blocks.{AreBlocks, nothing, with_blocks}
+use Rattle.patr_arena.specs.Blocks.{nothing, with_blocks}
 use Rattle.patr_arena.specs.Rows.{Row}
-use Rattle.patr_arena.specs.Shown.{IsShown}
 use Rattle.patr_arena.proofs.Results.{either}
-use Rattle.patr_arena.proofs.RowsShow.{are_push, blocks_push, nothing_shown, push_shown, row_blocks}
+use Rattle.patr_arena.proofs.RowsShow.{blocks_push, kept_row, nothing_shown, row_blocks}
 use Rattle.patr_arena.proofs.SameArenas.{same_plain}
 use Rattle.patr_arena.proofs.plain.PlainArena.push.Goals as goal
 
 pub invariant_of-self : goal.invariant_of-self
 invariant_of-self c =
     let arena = c.args.self.now in
-    let block = c.len-length.ensures.block in
-    either c.push.result c.push.ensures
-    (λ number p. record {
-      first_block = ap (λ (r : Row). r.first_block) p.1 ∙ arena.first_block;
-      first_node = ap (λ (r : Row). r.first_node) p.1 ∙ arena.first_node;
-      blocks = subst (λ (r : Row). AreBlocks nothing r.blocks) (sym p.1) (are_push nothing arena.row.blocks c.args.block arena.blocks block c.requires);
-      lawful = subst (λ (r : Row). IsShown (with_blocks nothing r.blocks)) (sym p.1) (push_shown nothing nothing_shown arena.row arena.first_block arena.first_node arena.blocks c.args.block block c.requires);
-    })
-    (λ back p. record {
-      first_block = ap (λ (r : Row). r.first_block) p.1 ∙ arena.first_block;
-      first_node = ap (λ (r : Row). r.first_node) p.1 ∙ arena.first_node;
-      blocks = subst (λ (r : Row). AreBlocks nothing r.blocks) (sym p.1) arena.blocks;
-      lawful = subst (λ (r : Row). IsShown (with_blocks nothing r.blocks)) (sym p.1) arena.lawful;
-    })
+    let kept = kept_row nothing nothing_shown arena.row arena.first_block arena.first_node arena.blocks c.args.block c.len-length.ensures.block c.requires _
+        (either c.push.result c.push.ensures (λ number p. inl p.1) (λ back p. inr p.1)) in
+    record { first_block = kept.first_block; first_node = kept.first_node; blocks = kept.blocks; lawful = kept.lawful }
 
 pub returns : goal.returns
 returns c =

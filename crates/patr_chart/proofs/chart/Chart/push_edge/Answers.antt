@@ -1,5 +1,5 @@
 use Rattle.std.proofs.Common.{◌≡◌, ◌++◌, ◌∷◌, [], length, sym, ap, subst, ◌∙◌, arith}
-use Rattle.patr_chart.specs.Lists.{numbers, neighbours, IsEntered}
+use Rattle.patr_chart.specs.Lists.{neighbours, IsEntered}
 use Rattle.patr_chart.specs.Charted.{IsEdgeAfter}
 use Rattle.patr_chart.proofs.Indexed.{few_neighbours, more_indexed}
 use Rattle.patr_chart.proofs.chart.Chart.push_edge.Goals as goal
@@ -12,7 +12,7 @@ overflow_cast-count c =
       arith,
       c.self.invariant.few,
       ap length c.neighbours-count.ensures,
-      few_neighbours c.self.inside.words es c.self.inside.counts.items (numbers c.self.inside.starting.items) (numbers c.self.inside.ending.items) c.self.invariant c.args.edge last.order last.within,
+      few_neighbours c.self.inside.words es c.self.inside.counts.items c.self.inside.starting c.self.inside.ending c.self.invariant c.args.edge last.order last.within,
     )
 
 pub invariant_of-self-2 : goal.invariant_of-self-2
@@ -20,10 +20,10 @@ invariant_of-self-2 c =
     let es = c.self.inside.edges.items in
     let last = subst (λ v. IsEdgeAfter v.words v.edges c.args.edge) (sym c.self.view_is) c.requires in
     let number : c.len-number.result ≡ length es = omega (arith, c.len-number.ensures) in
-    let entered = subst (λ n. IsEntered c.args.edge n (numbers c.self.inside.starting.items) (numbers c.self.inside.ending.items) (numbers c.enter.new.starting.items) (numbers c.enter.new.ending.items)) number (c.enter.ensures.entered c.if-not-enter.false) in
-    let count : length c.neighbours-count.result.now ≡ length (neighbours (numbers c.self.inside.starting.items) (numbers c.self.inside.ending.items) c.args.edge) = ap length c.neighbours-count.ensures in
+    let entered = subst (λ n. IsEntered c.args.edge n c.self.inside.starting c.self.inside.ending c.enter.new.starting c.enter.new.ending) number (c.enter.ensures.entered c.if-not-enter.false) in
+    let count : length c.neighbours-count.result.now ≡ length (neighbours c.self.inside.starting c.self.inside.ending c.args.edge) = ap length c.neighbours-count.ensures in
     let edges : c.push_reserved.new.self.items ≡ es ++ c.args.edge ∷ [] = c.push_reserved.ensures.items ∙ ap (λ l. l ++ c.args.edge ∷ []) c.reserve.ensures.items in
     let counts : c.push_reserved-2.new.self.items ≡ c.self.inside.counts.items ++ length c.neighbours-count.result.now ∷ [] = c.push_reserved-2.ensures.items ∙ ap (λ l. l ++ length c.neighbours-count.result.now ∷ []) c.reserve-else-is_err.ensures.items in
     rw (edges, counts, count)
-    (more_indexed c.self.inside.words es c.args.edge (numbers c.self.inside.starting.items) (numbers c.self.inside.ending.items) last
-    c.self.inside.counts.items (numbers c.enter.new.starting.items) (numbers c.enter.new.ending.items) c.self.invariant entered (omega (arith, c.if-number.false, c.len-number.ensures, c.self.invariant.few)))
+    (more_indexed c.self.inside.words es c.args.edge c.self.inside.starting c.self.inside.ending last
+    c.self.inside.counts.items c.enter.new.starting c.enter.new.ending c.self.invariant entered (omega (arith, c.if-number.false, c.len-number.ensures, c.self.invariant.few)))

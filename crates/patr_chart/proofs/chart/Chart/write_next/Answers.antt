@@ -1,8 +1,8 @@
 use Rattle.std.proofs.Common.{◌≡◌, ◌<◌, ◌++◌, ◌∷◌, [], length, slice_get, Some, sym, ap, subst, ◌∙◌}
-use Rattle.std.proofs.lemmas.Option.{slice_get-get_or}
+use Rattle.std.proofs.lemmas.Option.{slice_get-get_or, slice_get_within}
 use Rattle.patr_chart.specs.declared.chart.Pending.{Pending}
 use Rattle.patr_chart.specs.Pending.{AreHeld}
-use Rattle.patr_chart.proofs.Trees.{tree_longer, get_below}
+use Rattle.patr_chart.proofs.Trees.{tree_longer}
 use Rattle.patr_chart.proofs.Written.{root_step, pair_step}
 use Rattle.patr_chart.proofs.chart.Chart.write_next.Goals as goal
 
@@ -24,7 +24,7 @@ returns-in_ok-push-in-Some-2 c =
     let at : slice_get es c.args.next.number ≡ Some e = slice_get-get_or es c.args.next.number e here ∙ ap (λ x. Some x) (sym c.index-edge.ensures) in
     let b = c.in-Some.back in
     let l = tree_longer c.self.inside.words es c.self.invariant.edges c.args.next.number e b at c.in-Some.is in
-    let there = slice_get-get_or es b.passive c.index.result.now (get_below es b.passive l.passive l.passive_there) ∙ ap (λ x. Some x) (sym c.index.ensures) in
+    let there = slice_get-get_or es b.passive c.index.result.now (slice_get_within es b.passive l.passive l.passive_there) ∙ ap (λ x. Some x) (sym c.index.ensures) in
     let first : Pending = record { number = b.active; end = c.args.next.end } in
     let second : Pending = record { number = b.passive; end = c.index.result.now.end } in
     let items : c.push-in-Some-2.new.self.items ≡ (c.args.left.now.items ++ first ∷ []) ++ second ∷ [] = c.in_ok-push-in-Some-2.ensures.items ∙ ap (λ l. l ++ second ∷ []) c.in_ok-push-in-Some.ensures.items in
