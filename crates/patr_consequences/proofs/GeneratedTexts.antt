@@ -18,9 +18,8 @@ use Rattle.patr_model.proofs.Steps.{partial_or_complete}
 use Rattle.patr_model.proofs.StatedCategories.{are_built}
 use Rattle.patr_model.proofs.Wholes.{solved_go_by_category}
 use Rattle.patr_totality.proofs.Charts.{edge_derivation, edge_solvable, edge_least, drops_none}
-use Rattle.patr_model.specs.Grammar.{rule_variants}
 use Rattle.patr_model.specs.Session.{Numbering}
-use Rattle.patr_model.specs.Build.{keys_of, rule_of, entry_variants}
+use Rattle.patr_model.specs.Build.{keys_of, rule_variants, entry_variants}
 use Rattle.patr_consequences.specs.Generator as generator
 use Rattle.patr_consequences.specs.Generator.{generated_rules, generated_words, generated_entries, AreDifferent, numbered, edge_count, IsCounted, IsOnlyAnalysis, ChartsOfWordsAreCounted, GeneratedChartsAreCounted}
 use Rattle.patr_consequences.specs.Edges.{rule as B, active as A, tree as T, all_each as edges}
@@ -84,7 +83,7 @@ module _ (N : Numbering) (w : ℕ → List ℕ) where
   words_differ : (n : ℕ) → AreDifferent w n → (i j : ℕ) → i < n → j < n → symbols.word i ≡ symbols.word j → i ≡ j
   words_differ n differ i j hi hj e = differ i j hi hj (one_text (w i) (w j) e)
 
-  same_more : rule_variants symbols.cat (rule_of N.number generator.more_rule) ≡ more_rule symbols ∷ []
+  same_more : rule_variants N.number symbols.cat generator.more_rule ≡ more_rule symbols ∷ []
   same_more =
       rw (
         eq-eqb symbols.S symbols.S refl,
@@ -95,7 +94,7 @@ module _ (N : Numbering) (w : ℕ → List ℕ) where
         eq-eqb (N.number (codes "S_1")) (N.number (codes "S_1")) refl,
       ) refl
 
-  same_last : rule_variants symbols.cat (rule_of N.number generator.last_rule) ≡ last_rule symbols ∷ []
+  same_last : rule_variants N.number symbols.cat generator.last_rule ≡ last_rule symbols ∷ []
   same_last = rw (eq-eqb symbols.S symbols.S refl, ne_eqb symbols.S symbols.W S_W, eq-eqb symbols.W symbols.W refl) refl
 
   pub same_rules : (n : ℕ) → generated_rules N w n ≡ generated symbols n

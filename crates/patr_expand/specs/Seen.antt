@@ -5,9 +5,10 @@ use Rattle.std.specs.declared.alloc.Global.{Global}
 use Rattle.patr_model.specs.Equation as model
 use Rattle.patr_model.specs.Equation.{AtomOf, PathOf}
 use Rattle.patr_model.specs.Derivation as derivation
-use Rattle.patr_model.specs.Grammar.{Symbol, WrittenRule, single, variants}
+use Rattle.patr_model.specs.Grammar.{single, variants}
+use Rattle.patr_model.specs.Productions as production
 use Rattle.patr_model.specs.Build as build
-use Rattle.patr_model.specs.Build.{SizeFault, longest, size_fault, symbol_of}
+use Rattle.patr_model.specs.Build.{SizeFault, longest, size_fault}
 use Rattle.patr_text.specs.declared.symbols.Id.{Id}
 use Rattle.patr_text.specs.declared.fault.Fault.{Fault}
 use Rattle.patr_text.specs.declared.fault.Fault.TheVariants.{Memory, Refused}
@@ -51,9 +52,9 @@ equation_at e = record { left = path_at e.left; right = term_at e.right }
 abbrev pub equations_at : List Equation → List model.Equation
 equations_at es = map equation_at es
 
--- symbols of the code, by their numbers
-abbrev pub symbols_seen : List SymbolText → List Symbol
-symbols_seen xs = map (λ x. symbol_of number (symbol_seen x)) xs
+-- symbols of the code
+abbrev pub symbols_seen : List SymbolText → List (production.SymbolText Id)
+symbols_seen xs = map symbol_seen xs
 
 -- a variant of the code
 abbrev pub variant_at : RuleVariant → derivation.RuleVariant
@@ -64,7 +65,7 @@ abbrev pub variants_at : List RuleVariant → List derivation.RuleVariant
 variants_at vs = map variant_at vs
 
 -- the constituents of each variant of a rule, the mother first
-abbrev pub rule_symbols : WrittenRule → List (List Symbol)
+abbrev pub rule_symbols : production.RuleText Id → List (List (production.SymbolText Id))
 rule_symbols r = flat_map (λ xs. map (λ es. r.mother ∷ xs) (variants single r.equations)) (variants single r.right)
 
 -- the variants are of this rule, and numbered from k on

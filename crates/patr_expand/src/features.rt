@@ -3,7 +3,8 @@ ghost use Rattle.std.specs.Prelude.{◌≡◌, ◌≤◌, ◌++◌, None, IfOk, 
 ghost use Rattle.patr_model.specs.Build as model;
 ghost use Rattle.patr_model.specs.Build.{feature_variants};
 ghost use Rattle.patr_model.specs.Grammar.{variants};
-ghost use Rattle.patr_grammar.specs.Reading.{element_seen, features_seen, path_seen, term_seen};
+ghost use Rattle.patr_model.specs.Productions.{things};
+ghost use Rattle.patr_grammar.specs.Reading.{equations_seen, features_seen, path_seen, term_seen};
 ghost use Rattle.patr_expand.specs.Seen.{number, path_at, term_at, equation_at, equations_at, lists_at, features_fault, IsRefusedBy};
 
 use crate::cause::{ExpandCause, too_many};
@@ -35,7 +36,7 @@ fn feature_term(alloc: Global, term: &TermText) -> Result<Term, Memory>
 
 /// The equations of features without choices.
 fn feature_equations(alloc: Global, body: &[Element]) -> Result<Vec<Equation>, Memory>
-    ensures { IfOk result (λ equations. equations_at equations.items ≡ map (λ e. model.feature_equation number (element_seen e)) body.now) }
+    ensures { IfOk result (λ equations. equations_at equations.items ≡ map (model.feature_equation number) (things (equations_seen body.now))) }
 {
     let mut equations = Vec::with_capacity(alloc, body.len())?;
     for element in body {

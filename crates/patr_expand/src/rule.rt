@@ -1,28 +1,25 @@
 //! The variants of a rule.
 ghost use Rattle.std.specs.Prelude.{◌≡◌, ◌+◌, ◌<◌, ◌≤◌, ◌^◌, ◌++◌, ◌∷◌, None, Some, IfOk, IfErr, length, map, slice_get, filter_map};
 ghost use Rattle.std.specs.Option.{option_map};
-ghost use Rattle.patr_model.specs.Build as model;
+ghost use Rattle.patr_model.specs.Build as written;
 ghost use Rattle.patr_model.specs.Build.{rule_fault};
-ghost use Rattle.patr_model.specs.Grammar as written;
+ghost use Rattle.patr_model.specs.Productions.{things};
 ghost use Rattle.patr_grammar.specs.declared.grammar.RuleText as code;
-ghost use Rattle.patr_grammar.specs.Reading.{path_seen, term_seen, element_seen, rule_seen, symbol_seen, item_seen};
+ghost use Rattle.patr_grammar.specs.Reading.{path_seen, term_seen, equation_seen, equations_seen, rule_seen, symbol_seen, right_seen};
 ghost use Rattle.patr_expand.specs.Seen.{number, cat, symbols_seen, path_at, term_at, equation_at, equations_at, variant_at, variants_at, AreNumbered, IsRefusedBy};
 ghost use Rattle.patr_expand.specs.Expanded.{IsOnly, IsExpanded};
 
 use crate::cause::{ExpandCause, too_many};
 use crate::equation::{Equation, SlotPath, Term};
 use crate::variant::RuleVariant;
-use patr_grammar::{Element, Grammar, Item, PathText, RuleText, SymbolText, TermText};
-use patr_text::{Fault, Id, Memory};
+use patr_grammar::{Element, EquationText, Grammar, Item, PathText, RuleText, SymbolText, TermText};
+use patr_text::{Fault, Id, Memory, Symbols};
 use std::alloc::Global;
-
-/// The number of the attribute `cat`.
-const CAT: Id = Id(33);
 
 /// The slot of the first constituent with this symbol.
 fn slot_of(symbols: &[SymbolText], symbol: Id) -> Option<u32>
     requires few { length symbols.now < 2 ^ 32 }
-    ensures { result ≡ written.slot_of (symbols_seen symbols.now) symbol.0 }
+    ensures { result ≡ written.slot_of number (symbols_seen symbols.now) symbol.0 }
 {
     for (slot, other) in symbols.iter().enumerate() {
         if other.symbol == symbol {
@@ -32,22 +29,27 @@ fn slot_of(symbols: &[SymbolText], symbol: Id) -> Option<u32>
     None
 }
 
-/// The path from the slot of its constituent; none where there is no such constituent. A path that names none begins at
-/// this mother.
+/// The slot at which a path with this head begins: the mother's where it names no constituent.
+fn head_slot(symbols: &[SymbolText], head: Option<Id>) -> Option<u32>
+    requires few { length symbols.now < 2 ^ 32 }
+    ensures { result ≡ written.head_slot number (symbols_seen symbols.now) head }
+{
+    match head {
+        Some(symbol) => slot_of(symbols, symbol),
+        None => Some(0),
+    }
+}
+
+/// The path from the slot of its constituent; none where there is no such constituent.
 fn placed_path(
     alloc: Global,
     symbols: &[SymbolText],
-    mother: Id,
     path: &PathText,
 ) -> Result<Option<SlotPath>, Memory>
     requires few { length symbols.now < 2 ^ 32 }
-    ensures { IfOk result (λ found. option_map path_at found ≡ written.placed_path (symbols_seen symbols.now) (model.path_of number mother (path_seen path.now))) }
+    ensures { IfOk result (λ found. option_map path_at found ≡ written.placed_path number (symbols_seen symbols.now) (path_seen path.now)) }
 {
-    let head = match path.head {
-        Some(head) => head,
-        None => mother,
-    };
-    let Some(slot) = slot_of(symbols, head) else {
+    let Some(slot) = head_slot(symbols, path.head) else {
         return Ok(None);
     };
     let path = path.attributes.to_vec(alloc)?;
@@ -58,15 +60,14 @@ fn placed_path(
 fn placed_term(
     alloc: Global,
     symbols: &[SymbolText],
-    mother: Id,
     term: &TermText,
 ) -> Result<Option<Term>, Memory>
     requires few { length symbols.now < 2 ^ 32 }
-    ensures { IfOk result (λ found. option_map term_at found ≡ written.placed_term (symbols_seen symbols.now) (model.term_of number mother (term_seen term.now))) }
+    ensures { IfOk result (λ found. option_map term_at found ≡ written.placed_term number (symbols_seen symbols.now) (term_seen term.now)) }
 {
     match term {
         TermText::Atom(atom) => Ok(Some(Term::Atom(*atom))),
-        TermText::Path(path) => match placed_path(alloc, symbols, mother, path)? {
+        TermText::Path(path) => match placed_path(alloc, symbols, path)? {
             Some(path) => Ok(Some(Term::Path(path))),
             None => Ok(None),
         },
@@ -77,17 +78,15 @@ fn placed_term(
 fn placed_equation(
     alloc: Global,
     symbols: &[SymbolText],
-    mother: Id,
-    element: &Element,
+    equation: &EquationText,
 ) -> Result<Option<Equation>, Memory>
     requires few { length symbols.now < 2 ^ 32 }
-    ensures { IfOk result (λ found. option_map equation_at found ≡ written.placed_equation (symbols_seen symbols.now) (model.equation_of number mother (element_seen element.now))) }
+    ensures { IfOk result (λ found. option_map equation_at found ≡ written.placed_equation number (symbols_seen symbols.now) (equation_seen equation.now)) }
 {
-    let Element::Equation(equation) = element;
-    let Some(left) = placed_path(alloc, symbols, mother, &equation.left)? else {
+    let Some(left) = placed_path(alloc, symbols, &equation.left)? else {
         return Ok(None);
     };
-    let Some(right) = placed_term(alloc, symbols, mother, &equation.right)? else {
+    let Some(right) = placed_term(alloc, symbols, &equation.right)? else {
         return Ok(None);
     };
     Ok(Some(Equation { left, right }))
@@ -100,12 +99,12 @@ fn push_categories(
     equations: &mut Vec<Equation>,
 ) -> Result<(), Memory>
     requires few { length symbols.now < 2 ^ 32 }
-    ensures { IfOk result (λ _. equations_at equations.new.items ≡ equations_at equations.old.items ++ written.category_equations cat 0 (symbols_seen symbols.now)) }
+    ensures { IfOk result (λ _. equations_at equations.new.items ≡ equations_at equations.old.items ++ written.category_equations number cat 0 (symbols_seen symbols.now)) }
 {
     for (slot, symbol) in symbols.iter().enumerate() {
         let left = SlotPath {
             slot: slot as u32,
-            path: vec![in alloc; CAT]?,
+            path: vec![in alloc; Symbols::CAT]?,
         };
         let right = Term::Atom(symbol.category);
         equations.push(Equation { left, right })?;
@@ -117,15 +116,15 @@ fn push_categories(
 fn push_written(
     alloc: Global,
     symbols: &[SymbolText],
-    mother: Id,
     elements: &[Element],
     equations: &mut Vec<Equation>,
 ) -> Result<(), Memory>
     requires few { length symbols.now < 2 ^ 32 }
-    ensures { IfOk result (λ _. equations_at equations.new.items ≡ equations_at equations.old.items ++ filter_map (written.placed_equation (symbols_seen symbols.now)) (map (λ e. model.equation_of number mother (element_seen e)) elements.now)) }
+    ensures { IfOk result (λ _. equations_at equations.new.items ≡ equations_at equations.old.items ++ filter_map (written.placed_equation number (symbols_seen symbols.now)) (things (equations_seen elements.now))) }
 {
     for element in elements {
-        if let Some(equation) = placed_equation(alloc, symbols, mother, element)? {
+        let Element::Equation(equation) = element;
+        if let Some(equation) = placed_equation(alloc, symbols, equation)? {
             equations.push(equation)?;
         }
     }
@@ -134,7 +133,7 @@ fn push_written(
 
 /// The constituents of a rule, the mother first.
 fn constituents(alloc: Global, rule: &RuleText) -> Result<Vec<SymbolText>, Memory>
-    ensures symbols { IfOk result (λ symbols. symbols_seen symbols.items ≡ map (λ x. model.symbol_of number x) (symbol_seen rule.now.mother ∷ map item_seen rule.now.right.items)) }
+    ensures symbols { IfOk result (λ symbols. symbols_seen symbols.items ≡ symbol_seen rule.now.mother ∷ things (right_seen rule.now.right.items)) }
     ensures count { IfOk result (λ symbols. length symbols.items ≡ length rule.now.right.items + 1) }
 {
     let mut symbols = vec![in alloc; rule.mother]?;
@@ -152,13 +151,7 @@ fn only_variant(alloc: Global, rule: &RuleText, number: u32) -> Result<RuleVaria
     let symbols = constituents(alloc, rule)?;
     let mut equations = Vec::new(alloc);
     push_categories(alloc, &symbols, &mut equations)?;
-    push_written(
-        alloc,
-        &symbols,
-        rule.mother.symbol,
-        &rule.equations,
-        &mut equations,
-    )?;
+    push_written(alloc, &symbols, &rule.equations, &mut equations)?;
     Ok(RuleVariant {
         rule: number,
         variant: 0,

@@ -4,7 +4,7 @@ use super::*;
 use patr_grammar::{
     Element, EquationText, Grammar, Item, PathText, RuleText, SymbolText, TermText,
 };
-use patr_text::{Fault, Id, Memory};
+use patr_text::{Fault, Id, Memory, Symbols};
 use std::alloc::Global;
 use std::test::Fail;
 
@@ -74,7 +74,11 @@ fn grammar(alloc: Global, equations: Vec<Element>) -> Result<Grammar, Memory>
     };
     Ok(Grammar {
         rules: vec![in alloc; rule]?,
+        templates: Vec::new(alloc),
+        lexical_rules: Vec::new(alloc),
         start: S,
+        restrictor: vec![in alloc; vec![in alloc; Symbols::CAT]?]?,
+        order: Vec::new(alloc),
     })
 }
 

@@ -1,13 +1,14 @@
 -- A grammar that was read stays what was read while the table grows.
-use Rattle.std.proofs.Common.{ℕ, List, [], ◌∷◌, map, Option, None, Some}
+use Rattle.std.proofs.Common.{ℕ, List, map, Option, None, Some}
 use Rattle.patr_model.specs.Grammar.{Row, Rows, Done, One, OneOf, Optional, None', Or}
 use Rattle.patr_model.specs.Renaming.{Each, Both, SameRow, SameRows'}
-use Rattle.patr_model.specs.Agreeing.{SameSymbolText, SamePathText, SameTermText, SameEquationText, SameRuleText, SameTemplate, SameLexicalRule}
-use Rattle.patr_model.specs.Productions.{Grammar, SymbolText, PathText, TermText, AtomText, OfPath, EquationText, RuleText}
+use Rattle.patr_model.specs.Agreeing.{SameSymbolText, SamePathText, SameTermText, SameEquationText, SameFeatureText, SameRuleText, SameTemplate, SameLexicalRule}
+use Rattle.patr_model.specs.Productions.{Grammar, SymbolText, PathText, TermText, AtomText, OfPath, EquationText, FeatureText, Equates, Names, RuleText, Template, LexicalRule}
 use Rattle.patr_text.specs.declared.symbols.Id.{Id}
 use Rattle.patr_text.specs.Texts.{Extends}
 use Rattle.patr_grammar.specs.declared.grammar.Grammar as code_grammar
-use Rattle.patr_grammar.specs.Reading.{IsText, IsGrammar, cat_number, rule_seen}
+use Rattle.patr_grammar.specs.Defaults.{paths_seen}
+use Rattle.patr_grammar.specs.Reading.{IsText, IsGrammar, rule_seen, template_seen, lexical_rule_seen}
 use Rattle.patr_grammar.proofs.Tables.{each_still, text_still}
 
 -- what belongs together by fewer pairs of words does by more
@@ -58,6 +59,19 @@ mutual
   rows_still R S f (Or r rs) None' h = absurd h
   rows_still R S f (Or r rs) (Or s ss) h = (row_still R S f r s h.0, rows_still R S f rs ss h.1)
 
+module _ {W V : Type 0} (P Q : W → V → Type 0) (f : (x : W) (y : V) → P x y → Q x y) where
+  pub feature_still : (x : FeatureText W) (y : FeatureText V) → SameFeatureText P x y → SameFeatureText Q x y
+  feature_still (Equates e) (Equates g) h = equation_still P Q f e g h
+  feature_still (Equates e) (Names b q) h = absurd h
+  feature_still (Names a p) (Equates g) h = absurd h
+  feature_still (Names a p) (Names b q) h = (f a b h.0, h.1)
+
+  template_still : (t : Template W) (u : Template V) → SameTemplate P t u → SameTemplate Q t u
+  template_still t u h = record { line = h.line; name = f t.name u.name h.name; body = row_still (SameFeatureText P) (SameFeatureText Q) feature_still t.body u.body h.body }
+
+  lexical_rule_still : (r : LexicalRule W) (s : LexicalRule V) → SameLexicalRule P r s → SameLexicalRule Q r s
+  lexical_rule_still r s h = record { line = h.line; name = f r.name s.name h.name; equations = each_still (SameEquationText P) (SameEquationText Q) (equation_still P Q f) r.equations s.equations h.equations }
+
 rule_still : (old new : List (List ℕ)) → Extends old new → (r : RuleText Id) (s : RuleText (List ℕ)) → SameRuleText (IsText old) r s → SameRuleText (IsText new) r s
 rule_still old new e r s h =
     let f : (i : Id) (t : List ℕ) → IsText old i t → IsText new i t = λ i t is. text_still old new e i.0 t is in
@@ -69,10 +83,6 @@ rule_still old new e r s h =
       equations = row_still (SameEquationText (IsText old)) (SameEquationText (IsText new)) (equation_still (IsText old) (IsText new) f) r.equations s.equations h.equations;
     }
 
-nothing_still : {X Y : Type 0} (R S : X → Y → Type 0) (ys : List Y) → Each R [] ys → Each S [] ys
-nothing_still R S [] h = tt
-nothing_still R S (y ∷ ys) h = absurd h
-
 -- a grammar that was read stays what was read in a longer table
 pub grammar_still : (old new : List (List ℕ)) → Extends old new → (g : code_grammar.Grammar) (t : Grammar (List ℕ)) → IsGrammar old g t → IsGrammar new g t
 grammar_still old new e g t h =
@@ -81,9 +91,9 @@ grammar_still old new e g t h =
     let f : (i : Id) (t : List ℕ) → P i t → Q i t = λ i t is. text_still old new e i.0 t is in
     record {
       rules = each_still (SameRuleText P) (SameRuleText Q) (rule_still old new e) (map rule_seen g.rules.items) t.rules h.rules;
-      templates = nothing_still (SameTemplate P) (SameTemplate Q) t.templates h.templates;
-      lexical_rules = nothing_still (SameLexicalRule P) (SameLexicalRule Q) t.lexical_rules h.lexical_rules;
+      templates = each_still (SameTemplate P) (SameTemplate Q) (template_still P Q f) (map template_seen g.templates.items) t.templates h.templates;
+      lexical_rules = each_still (SameLexicalRule P) (SameLexicalRule Q) (lexical_rule_still P Q f) (map lexical_rule_seen g.lexical_rules.items) t.lexical_rules h.lexical_rules;
       start = f g.start t.start h.start;
-      restrictor = each_still (Each P) (Each Q) (each_still P Q f) ((cat_number ∷ []) ∷ []) t.restrictor h.restrictor;
-      order = nothing_still P Q t.order h.order;
+      restrictor = each_still (Each P) (Each Q) (each_still P Q f) (paths_seen g.restrictor.items) t.restrictor h.restrictor;
+      order = each_still P Q f g.order.items t.order h.order;
     }

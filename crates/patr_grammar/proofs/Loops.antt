@@ -3,14 +3,13 @@ use Rattle.std.proofs.Common.{◌≡◌, ℕ, zero, suc, ◌-◌, ◌≤◌, Boo
 use Rattle.std.proofs.lemmas.Bool.{true≢false}
 use Rattle.patr_model.specs.Parsing as parsing
 use Rattle.patr_model.specs.Parsing.{Parse, Got, Stops, ◌>>=◌, Reads, many}
-use Rattle.patr_model.specs.Productions.{Left, Item, Single, SymbolText, RuleText, Clause, RuleClause, row, many_right, begins_outer, item, star_right, right_side, with_name, clause, clauses}
+use Rattle.patr_model.specs.Productions.{Left, Item, SymbolText, RuleText, Clause, RuleClause, row, many_right, begins_outer, item, star_right, right_side, with_name, clause, clauses}
 use Rattle.patr_model.specs.Built.{stage}
 use Rattle.patr_text.specs.declared.fault.Fault.{Fault}
 use Rattle.patr_text.specs.declared.fault.Fault.TheVariants.{Memory, Refused}
 use Rattle.patr_text.specs.declared.symbols.Id.{Id}
 use Rattle.patr_grammar.specs.declared.lexeme.Lexeme.{Lexeme}
 use Rattle.patr_grammar.specs.declared.reader.Refusal.{Refusal}
-use Rattle.patr_grammar.specs.declared.grammar.Item as code_item
 use Rattle.patr_grammar.specs.declared.grammar.RuleText as code_rule
 use Rattle.patr_grammar.specs.Reading.{item_seen}
 use Rattle.patr_grammar.specs.Views.{by_id, refusal_seen, Gives, GivesAt, right_view, rule_view}
@@ -33,10 +32,6 @@ Items = List (Item (SymbolText Id))
 
 abbrev ItemParse : Type 0
 ItemParse = Parse Lexeme Id (Left Lexeme) Items
-
--- an item of the code
-abbrev pub item_view : code_item.Item → Item (SymbolText Id)
-item_view i = Single (item_seen i)
 
 -- an item without groups
 abbrev pub plain_item : Left Lexeme → Parse Lexeme Id (Left Lexeme) (Item (SymbolText Id))
@@ -66,7 +61,7 @@ not_empty [] h = absurd cc
 not_empty (t ∷ ts) h = omega arith
 
 pub right_stops : (f : Fault Refusal) (front : Items) (n : ℕ) (s state : Left Lexeme) (rest ts : List Lexeme) → begins_outer by_id s.tokens ≡ true → length s.tokens ≤ n → so_far front n s ≡ all_items ts
-    → GivesAt item_view (Err f) state rest (plain_item s) → Gives right_view (Err f) rest (right_side by_id stage ts)
+    → GivesAt item_seen (Err f) state rest (plain_item s) → Gives right_view (Err f) rest (right_side by_id stage ts)
 right_stops Memory front n s state rest ts h le e g = tt
 right_stops (Refused r) front n s state rest ts h le e g =
     let k = one_more n (omega (arith, not_empty s.tokens h)) in

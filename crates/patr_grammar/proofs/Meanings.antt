@@ -1,5 +1,5 @@
 -- From what lexemes stand for to what the bytes of a text stand for.
-use Rattle.std.proofs.Common.{◌≡◌, ℕ, List, [], ◌∷◌, map, codes, slice_get, slice_index_or, Option, None, Some, IfSome, IfNone, length, ◌<◌, Result, Ok, Err, IfOk, IfErr, IsUtf8, IsTrue, nat_eq, refl, sym, ap, ◌∙◌, subst, arith}
+use Rattle.std.proofs.Common.{◌≡◌, ℕ, List, [], ◌∷◌, map, codes, slice_get, slice_index_or, Option, None, Some, IfSome, IfNone, length, ◌<◌, Result, Ok, Err, Vec, Global, IfOk, IfErr, IsUtf8, IsTrue, nat_eq, refl, sym, ap, ◌∙◌, subst, arith}
 use Rattle.std.proofs.lemmas.Bool.Decides.{nat_tests}
 use Rattle.std.specs.Option.{ok_or}
 use Rattle.patr_model.specs.Bytes.{same_text}
@@ -21,13 +21,16 @@ use Rattle.patr_text.specs.declared.symbols.Id.{Id}
 use Rattle.patr_text.specs.Texts.{Extends, first_texts}
 use Rattle.patr_grammar.specs.declared.lexeme.Lexeme.{Lexeme}
 use Rattle.patr_grammar.specs.declared.grammar.RuleText.{RuleText}
+use Rattle.patr_grammar.specs.declared.grammar.Template.{Template}
+use Rattle.patr_grammar.specs.declared.grammar.LexicalRule.{LexicalRule}
 use Rattle.patr_grammar.specs.declared.grammar.Grammar.{Grammar}
 use Rattle.patr_grammar.specs.declared.grammar.GrammarCause.{GrammarCause}
 use Rattle.patr_grammar.specs.declared.grammar.GrammarCause.TheVariants as cause
 use Rattle.patr_grammar.specs.declared.reader.Refusal.{Refusal}
 use Rattle.patr_grammar.specs.declared.reader.Refusal.TheVariants.{Expected, NotAConstituent, PathTooLong, TooManySymbols, LaterForm}
-use Rattle.patr_grammar.specs.Reading.{IsText, cat_number, rule_seen, grammar_seen, StandsFor, IsRefusedFor}
-use Rattle.patr_grammar.specs.Views.{by_id, IsLexeme, first_place, refusal_seen, rule_view, IsRefusedAt, Answers}
+use Rattle.patr_grammar.specs.Defaults.{cat_number, paths_seen, by_category}
+use Rattle.patr_grammar.specs.Reading.{IsText, rule_seen, template_seen, lexical_rule_seen, grammar_seen, StandsFor, IsRefusedFor}
+use Rattle.patr_grammar.specs.Views.{by_id, IsLexeme, first_place, refusal_seen, IsRefusedAt, AreRules, Answers}
 use Rattle.patr_model.proofs.Agreeing.{grammars_agree}
 use Rattle.patr_grammar.proofs.Forms.{stands}
 use Rattle.patr_grammar.proofs.Tables.{text_still}
@@ -35,14 +38,34 @@ use Rattle.patr_grammar.proofs.Texts.{same_by}
 
 -- ---- the grammar of some rules
 
--- what is answered of rules up to the end
-pub grammar_answers : (cat : Id) (end : Place) (rules : List RuleText) (made : Option Grammar) (ls rest : List Lexeme) → clauses by_id stage (length ls) [] ls ≡ Got (map rule_view rules) rest
-    → IfSome made (λ g. 0 < length rules) → IfSome made (λ g. g.rules.items ≡ rules) → IfSome made (λ g. (default : RuleText) → g.start ≡ (slice_index_or rules 0 default).mother.category) → IfNone made (rules ≡ [])
-    → Answers cat end (ok_or made (Refused cause.NoRules)) (grammar by_id stage cat ls)
-grammar_answers cat end rules None ls rest e some same start none = ap (outcome cat) (e ∙ ap (λ (rs : List RuleText). Got (map rule_view rs) rest) none)
-grammar_answers cat end rules (Some g) ls rest e some same start none =
-    stands by_id rule_seen cat g.start rules ls rest e some start
-    ∙ ap (λ (rs : List RuleText). Stands (record { rules = map rule_seen rs; templates = []; lexical_rules = []; start = g.start; restrictor = (cat ∷ []) ∷ []; order = [] })) (sym same)
+pub no_rules : (end : Place) (rules : List RuleText) (ls rest : List Lexeme) → length rules ≡ 0 → AreRules rules ls rest → Answers end (Err (Refused cause.NoRules)) (grammar by_id stage cat_number ls)
+no_rules end [] ls rest h e = ap (outcome cat_number) e
+no_rules end (r ∷ rs) ls rest h e = absurd (omega (arith, h))
+
+pub first_rule : (rules : List RuleText) (d e : RuleText) → 0 < length rules → slice_index_or rules 0 d ≡ slice_index_or rules 0 e
+first_rule [] d e h = absurd (omega (arith, h))
+first_rule (r ∷ rs) d e h = refl
+
+pub some_rules : (rules : List RuleText) (templates : List Template) (lexical : List LexicalRule) (start : Id) (restrictor : List (Vec Id Global)) (order : List Id) (ls rest : List Lexeme)
+    → templates ≡ [] → lexical ≡ [] → paths_seen restrictor ≡ by_category → order ≡ [] → AreRules rules ls rest → 0 < length rules → ((default : RuleText) → start ≡ (slice_index_or rules 0 default).mother.category)
+    → grammar by_id stage cat_number ls ≡ Stands (record {
+      rules = map rule_seen rules;
+      templates = map template_seen templates;
+      lexical_rules = map lexical_rule_seen lexical;
+      start = start;
+      restrictor = paths_seen restrictor;
+      order = order;
+    })
+some_rules rules templates lexical start restrictor order ls rest a b c d e some is =
+    stands by_id rule_seen cat_number start rules ls rest e some is
+    ∙ λ i. Stands (record {
+      rules = map rule_seen rules;
+      templates = map template_seen (sym a i);
+      lexical_rules = map lexical_rule_seen (sym b i);
+      start = start;
+      restrictor = sym c i;
+      order = sym d i;
+    })
 
 -- ---- lexemes and tokens are read alike
 
@@ -113,7 +136,7 @@ module _ (table : List (List ℕ)) (bytes : List ℕ) (ts : List Token) (utf8 : 
   is_read : (p : Outcome Token (List ℕ)) → by_tokens ≡ p → reading stage bytes ≡ of_outcome end p
   is_read p e = ap (of_scanned stage end) scanned ∙ ap (of_outcome end) e
 
-  stands_for : (g : Grammar) (p : Outcome Token (List ℕ)) → by_tokens ≡ p → Same (Stands (grammar_seen cat_number g)) p → StandsFor table bytes g
+  stands_for : (g : Grammar) (p : Outcome Token (List ℕ)) → by_tokens ≡ p → Same (Stands (grammar_seen g)) p → StandsFor table bytes g
   stands_for g (Stands h) e same = (h, (utf8, is_read (Stands h) e), same)
   stands_for g NoRules e same = absurd same
   stands_for g (production.Refused r rest) e same = absurd same
@@ -134,7 +157,7 @@ module _ (table : List (List ℕ)) (bytes : List ℕ) (ts : List Token) (utf8 : 
   refused_at : (r : Refusal) (line column : ℕ) (o : Outcome Lexeme Id) → IsRefusedAt (refusal_seen r) line column end o → Same o by_tokens → reading stage bytes ≡ told.Refused (refusal_by_text r) (record { line = line; column = column })
   refused_at r line column o h same = refused r (record { line = line; column = column }) h.0 by_tokens refl h.2 (subst (λ (o : Outcome Lexeme Id). Same o by_tokens) h.1 same)
 
-  refusal_is : (c : GrammarCause) (o : Outcome Lexeme Id) → Answers cat_number end (Err (Refused c)) o → Same o by_tokens → IsRefusedFor bytes (Refused c)
+  refusal_is : (c : GrammarCause) (o : Outcome Lexeme Id) → Answers end (Err (Refused c)) o → Same o by_tokens → IsRefusedFor bytes (Refused c)
   refusal_is (cause.NotUtf8 at) o h same = absurd h
   refusal_is (cause.BadToken line column) o h same = absurd h
   refusal_is (cause.Expected line column what) o h same = (utf8, refused_at (Expected what) line column o h same, λ x. x)
@@ -145,14 +168,14 @@ module _ (table : List (List ℕ)) (bytes : List ℕ) (ts : List Token) (utf8 : 
   refusal_is (cause.LaterForm line column) o h same = (utf8, refused_at LaterForm line column o h same, λ x. x)
 
   -- what is answered of the lexemes is so of the bytes
-  pub answered : (ls : List Lexeme) (result : Result Grammar (Fault GrammarCause)) → IsTable table → Extends first_texts table → Each (IsLexeme table) ls ts → ((cat : Id) → Answers cat end result (grammar by_id stage cat ls))
+  pub answered : (ls : List Lexeme) (result : Result Grammar (Fault GrammarCause)) → IsTable table → Extends first_texts table → Each (IsLexeme table) ls ts → Answers end result (grammar by_id stage cat_number ls)
       → IfOk result (λ g. StandsFor table bytes g) × IfErr result (λ fault. IsRefusedFor bytes fault)
-  answered ls result once begins each answers = by result (answers cat_number)
+  answered ls result once begins each answers = by result answers
     where
       same : Same (grammar by_id stage cat_number ls) by_tokens
       same = grammars_agree (IsLexeme table) (IsText table) by_id by_text (words_agree table once) stage cat_number (codes "cat") (has_cat table begins) ls ts each
 
-      by : (result : Result Grammar (Fault GrammarCause)) → Answers cat_number end result (grammar by_id stage cat_number ls) → IfOk result (λ g. StandsFor table bytes g) × IfErr result (λ fault. IsRefusedFor bytes fault)
+      by : (result : Result Grammar (Fault GrammarCause)) → Answers end result (grammar by_id stage cat_number ls) → IfOk result (λ g. StandsFor table bytes g) × IfErr result (λ fault. IsRefusedFor bytes fault)
       by (Ok g) h = (stands_for g by_tokens refl (subst (λ (o : Outcome Lexeme Id). Same o by_tokens) h same), tt)
       by (Err Memory) h = (tt, tt)
       by (Err (Refused c)) h = (tt, refusal_is c (grammar by_id stage cat_number ls) h same)

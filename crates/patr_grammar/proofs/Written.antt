@@ -14,9 +14,10 @@ use Rattle.patr_text.specs.declared.symbols.Id.{Id}
 use Rattle.patr_grammar.specs.declared.lexeme.Lexeme.{Lexeme}
 use Rattle.patr_grammar.specs.declared.reader.Refusal.{Refusal}
 use Rattle.patr_grammar.specs.declared.grammar.Item as code_item
-use Rattle.patr_grammar.specs.Reading.{item_seen, right_seen, equation_seen}
+use Rattle.patr_grammar.specs.declared.grammar.Item.TheVariants as item
+use Rattle.patr_grammar.specs.Reading.{equation_seen, element_seen, feature_seen}
 use Rattle.patr_grammar.specs.declared.grammar.Element.{Element}
-use Rattle.patr_grammar.specs.Views.{by_id, refusal_seen, Gives, equation_item, feature_item, equations_view, features_view}
+use Rattle.patr_grammar.specs.Views.{by_id, refusal_seen, is_among, Gives, equations_view, features_view}
 use Rattle.patr_grammar.proofs.Features.{closed, elements_is}
 use Rattle.patr_grammar.proofs.Loops.{onto, onto_one, many_from, many_stops, many_ends}
 
@@ -25,9 +26,13 @@ Tokens = List Lexeme
 
 -- ---- the first word of a path
 
-pub any_symbol : (s : Id) (items : List code_item.Item) → list_any (λ (i : code_item.Item). nat_eq s.0 (item_seen i).symbol.0) items ≡ list_any (λ (x : Id). nat_eq s.0 x.0) (symbols_of (right_seen items))
+pub any_symbol : (s : Id) (items : List code_item.Item) → list_any (λ (i : code_item.Item). is_among s (i ∷ [])) items ≡ is_among s items
 any_symbol s [] = refl
-any_symbol s (i ∷ items) = ap (λ (b : Bool). nat_eq s.0 (item_seen i).symbol.0 || b) (any_symbol s items)
+any_symbol s (item.Symbol x ∷ items) = ap (λ (b : Bool). (nat_eq s.0 x.symbol.0 || false) || b) (any_symbol s items) ∙ go (nat_eq s.0 x.symbol.0)
+  where
+    go : (b : Bool) → ((b || false) || is_among s items) ≡ (b || is_among s items)
+    go true = refl
+    go false = refl
 
 -- ---- the words of a path
 
@@ -88,7 +93,7 @@ equation_read h ts a = braced_single (begins_ruleitem by_id) (rule_equation by_i
     ∙ ap (λ (x : Bool). cond x (Stops LaterForm ts) (equation by_id h what.Equation ts) >>= λ x ts. Got (Single x) ts) (is_built (begins (is_kind by_id Less) ts))
 
 pub equation_fails : (h : Head Id) (f : Fault Refusal) (ts rest : Tokens) → begins (is_kind by_id OpenBrace) ts ≡ false
-    → Gives equation_seen (Err f) rest (equation by_id h what.Equation ts) → Gives equation_item (Err f) rest (rule_item h ts)
+    → Gives equation_seen (Err f) rest (equation by_id h what.Equation ts) → Gives element_seen (Err f) rest (rule_item h ts)
 equation_fails h Memory ts rest a g = tt
 equation_fails h (Refused r) ts rest a g = equation_read h ts a ∙ ap (λ (p : Parse Lexeme Id Tokens (EquationText Id)). p >>= λ x ts. Got (Single x) ts) g
 
@@ -99,7 +104,7 @@ abbrev pub items_from : Head Id → List (Item (EquationText Id)) → ℕ → Re
 items_from h front n ts = many_from (begins_ruleitem by_id) (rule_item h) front n ts
 
 pub items_fail : (h : Head Id) (f : Fault Refusal) (front : List (Item (EquationText Id))) (n : ℕ) (ts rest start : Tokens) → begins_ruleitem by_id ts ≡ true → length ts ≤ n → items_from h front n ts ≡ item_list h start
-    → Gives equation_item (Err f) rest (rule_item h ts) → Gives equations_view (Err f) rest (ruleitems by_id stage h start)
+    → Gives element_seen (Err f) rest (rule_item h ts) → Gives equations_view (Err f) rest (ruleitems by_id stage h start)
 items_fail h Memory front n ts rest start s le e g = tt
 items_fail h (Refused r) front n ts rest start s le e g = ap (λ (p : Parse Lexeme Id Tokens (List (Item (EquationText Id)))). p >>= λ xs ts. Got (row xs) ts)
     (many_stops (begins_ruleitem by_id) (rule_item h) front n ts rest (refusal_seen r) (item_list h start) refl s le e g)
@@ -151,7 +156,7 @@ feature_read ts a h =
     twice (Stops r rest) = refl
 
 pub feature_fails : (f : Fault Refusal) (ts rest : Tokens) → begins (is_kind by_id OpenBrace) ts ≡ false → begins (is_symbol by_id) ts ≡ false
-    → Gives equation_seen (Err f) rest (equation by_id AnyAttribute what.EquationOrName ts) → Gives feature_item (Err f) rest (one_feature ts)
+    → Gives equation_seen (Err f) rest (equation by_id AnyAttribute what.EquationOrName ts) → Gives feature_seen (Err f) rest (one_feature ts)
 feature_fails Memory ts rest a h g = tt
 feature_fails (Refused r) ts rest a h g = feature_read ts a h ∙ ap (λ (p : Parse Lexeme Id Tokens (EquationText Id)). p >>= λ e ts. Got (Single (Equates e)) ts) g
 
@@ -159,10 +164,10 @@ abbrev pub feature_list : Reads Lexeme Id (List (Item (FeatureText Id)))
 feature_list ts = star (begins_feature by_id) one_feature ts
 
 abbrev pub feature_items : Vec Element Global → List (Item (FeatureText Id))
-feature_items v = map feature_item v.items
+feature_items v = map feature_seen v.items
 
 pub features_fail : (f : Fault Refusal) (front : List (Item (FeatureText Id))) (n : ℕ) (ts rest start : Tokens) → begins_feature by_id ts ≡ true → length ts ≤ n → many_from (begins_feature by_id) one_feature front n ts ≡ feature_list start
-    → Gives feature_item (Err f) rest (one_feature ts) → Gives feature_items (Err f) rest (feature_list start)
+    → Gives feature_seen (Err f) rest (one_feature ts) → Gives feature_items (Err f) rest (feature_list start)
 features_fail Memory front n ts rest start s le e g = tt
 features_fail (Refused r) front n ts rest start s le e g = many_stops (begins_feature by_id) one_feature front n ts rest (refusal_seen r) (feature_list start) refl s le e g
 

@@ -1,3 +1,4 @@
+pub mod Defaults
 pub mod Views
 pub mod Reading
 pub mod Features

@@ -12,8 +12,8 @@ use Rattle.patr_text.specs.declared.symbols.Id.{Id}
 use Rattle.patr_text.specs.declared.fault.Fault.{Fault}
 use Rattle.patr_text.specs.declared.fault.Fault.TheVariants.{Memory, Refused}
 use Rattle.patr_grammar.specs.declared.grammar.SymbolText as code_symbol
-use Rattle.patr_grammar.specs.declared.grammar.Item.{Item}
-use Rattle.patr_grammar.specs.declared.grammar.Item.TheVariants.{Symbol}
+use Rattle.patr_grammar.specs.declared.grammar.Item as code_item
+use Rattle.patr_grammar.specs.declared.grammar.Item.TheVariants as item
 use Rattle.patr_grammar.specs.declared.grammar.PathText as code_path
 use Rattle.patr_grammar.specs.declared.grammar.TermText as code_term
 use Rattle.patr_grammar.specs.declared.grammar.TermText.TheVariants as term
@@ -21,9 +21,12 @@ use Rattle.patr_grammar.specs.declared.grammar.EquationText as code_equation
 use Rattle.patr_grammar.specs.declared.grammar.Element.{Element}
 use Rattle.patr_grammar.specs.declared.grammar.Element.TheVariants.{Equation}
 use Rattle.patr_grammar.specs.declared.grammar.RuleText as code_rule
+use Rattle.patr_grammar.specs.declared.grammar.Template as code_template
+use Rattle.patr_grammar.specs.declared.grammar.LexicalRule as code_lexical
 use Rattle.patr_grammar.specs.declared.grammar.Grammar as code_grammar
 use Rattle.patr_grammar.specs.declared.grammar.GrammarCause.{GrammarCause}
 use Rattle.patr_grammar.specs.declared.grammar.GrammarCause.TheVariants as cause
+use Rattle.patr_grammar.specs.Defaults.{paths_seen}
 
 -- the number has this text in the table
 abbrev pub IsText : List (List ℕ) → Id → List ℕ → Type 0
@@ -33,13 +36,13 @@ IsText table id text = slice_get table id.0 ≡ Some text
 abbrev pub symbol_seen : code_symbol.SymbolText → production.SymbolText Id
 symbol_seen s = record { symbol = s.symbol; category = s.category }
 
--- an item's symbol
-abbrev pub item_seen : Item → production.SymbolText Id
-item_seen (Symbol s) = symbol_seen s
+-- an item of a right side of the code
+abbrev pub item_seen : code_item.Item → production.Item (production.SymbolText Id)
+item_seen (item.Symbol s) = Single (symbol_seen s)
 
 -- a right side of the code
-abbrev pub right_seen : List Item → Row (production.SymbolText Id)
-right_seen items = row (map (λ i. Single (item_seen i)) items)
+abbrev pub right_seen : List code_item.Item → Row (production.SymbolText Id)
+right_seen items = row (map item_seen items)
 
 -- a path of the code
 abbrev pub path_seen : code_path.PathText → production.PathText Id
@@ -54,33 +57,48 @@ term_seen (term.Path p) = production.OfPath (path_seen p)
 abbrev pub equation_seen : code_equation.EquationText → production.EquationText Id
 equation_seen e = record { left = path_seen e.left; right = term_seen e.right }
 
--- an element's equation
-abbrev pub element_seen : Element → production.EquationText Id
-element_seen (Equation e) = equation_seen e
+-- an element among the equations of a rule of the code
+abbrev pub element_seen : Element → production.Item (production.EquationText Id)
+element_seen (Equation e) = Single (equation_seen e)
 
 -- the equations of a rule of the code
 abbrev pub equations_seen : List Element → Row (production.EquationText Id)
-equations_seen es = row (map (λ e. Single (element_seen e)) es)
+equations_seen es = row (map element_seen es)
 
--- the features of the code
+-- an element of features of the code
+abbrev pub feature_seen : Element → production.Item (FeatureText Id)
+feature_seen (Equation e) = Single (Equates (equation_seen e))
+
+-- features of the code
 abbrev pub features_seen : List Element → Row (FeatureText Id)
-features_seen es = row (map (λ e. Single (Equates (element_seen e))) es)
+features_seen es = row (map feature_seen es)
 
 -- a rule of the code
 abbrev pub rule_seen : code_rule.RuleText → production.RuleText Id
 rule_seen r = record { line = r.line; name = r.name.items; mother = symbol_seen r.mother; right = right_seen r.right.items; equations = equations_seen r.equations.items }
 
--- the number of `cat`, which every table has
-abbrev pub cat_number : Id
-cat_number = record { 0 = 33 }
+-- a template of the code
+abbrev pub template_seen : code_template.Template → production.Template Id
+template_seen t = record { line = t.line; name = t.name; body = features_seen t.body.items }
 
--- a grammar of the code, which has rules alone
-abbrev pub grammar_seen : Id → code_grammar.Grammar → Grammar Id
-grammar_seen cat g = record { rules = map rule_seen g.rules.items; templates = []; lexical_rules = []; start = g.start; restrictor = (cat ∷ []) ∷ []; order = [] }
+-- a lexical rule of the code
+abbrev pub lexical_rule_seen : code_lexical.LexicalRule → production.LexicalRule Id
+lexical_rule_seen r = record { line = r.line; name = r.name; equations = map equation_seen r.equations.items }
+
+-- a grammar of the code
+abbrev pub grammar_seen : code_grammar.Grammar → Grammar Id
+grammar_seen g = record {
+  rules = map rule_seen g.rules.items;
+  templates = map template_seen g.templates.items;
+  lexical_rules = map lexical_rule_seen g.lexical_rules.items;
+  start = g.start;
+  restrictor = paths_seen g.restrictor.items;
+  order = g.order.items;
+}
 
 -- a grammar of the code is this one by the table
 abbrev pub IsGrammar : List (List ℕ) → code_grammar.Grammar → Grammar (List ℕ) → Type 0
-IsGrammar table g t = SameGrammar (IsText table) (grammar_seen cat_number g) t
+IsGrammar table g t = SameGrammar (IsText table) (grammar_seen g) t
 
 -- the grammar is what the bytes stand for
 abbrev pub StandsFor : List (List ℕ) → List ℕ → code_grammar.Grammar → Type 0

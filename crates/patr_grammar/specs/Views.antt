@@ -1,5 +1,6 @@
 -- What the reader passes on, as the definitions see it.
-use Rattle.std.specs.Prelude.{◌≡◌, ℕ, ◌+◌, ◌-◌, ◌<◌, List, [], ◌∷◌, nat_eq, Result, Ok, Err}
+use Rattle.std.specs.Prelude.{◌≡◌, ℕ, ◌+◌, ◌-◌, ◌<◌, List, [], ◌∷◌, length, map, Bool, nat_eq, Result, Ok, Err}
+use Rattle.std.specs.List.{list_any}
 use Rattle.std.specs.declared.vec.Vec.{Vec}
 use Rattle.std.specs.declared.alloc.Global.{Global}
 use Rattle.patr_model.specs.Grammar.{Row}
@@ -8,7 +9,8 @@ use Rattle.patr_model.specs.Lexemes.{Words, key_of, without_index}
 use Rattle.patr_model.specs.Parsing as parsing
 use Rattle.patr_model.specs.Parsing.{Parse, Got, Stops}
 use Rattle.patr_model.specs.Productions as production
-use Rattle.patr_model.specs.Productions.{Item, Single, Equates, FeatureText, EquationText, Left, Clause, RuleClause, Outcome, Stands, Refused, symbols_of}
+use Rattle.patr_model.specs.Productions.{FeatureText, EquationText, Left, Clause, RuleClause, Outcome, Stands, Refused, symbols_of, clauses, grammar}
+use Rattle.patr_model.specs.Built.{stage}
 use Rattle.patr_text.specs.declared.fault.Fault as fault
 use Rattle.patr_text.specs.declared.fault.Fault.TheVariants as faulty
 use Rattle.patr_text.specs.declared.symbols.Id.{Id}
@@ -26,7 +28,8 @@ use Rattle.patr_grammar.specs.declared.reader.Refusal.{Refusal}
 use Rattle.patr_grammar.specs.declared.reader.Refusal.TheVariants.{Expected, NotAConstituent, PathTooLong, TooManySymbols, LaterForm}
 use Rattle.patr_grammar.specs.declared.head.Head as code_head
 use Rattle.patr_grammar.specs.declared.head.Head.TheVariants as heads
-use Rattle.patr_grammar.specs.Reading.{IsText, right_seen, element_seen, equations_seen, features_seen, rule_seen, grammar_seen}
+use Rattle.patr_grammar.specs.Defaults.{cat_number}
+use Rattle.patr_grammar.specs.Reading.{IsText, right_seen, equations_seen, features_seen, rule_seen, grammar_seen}
 
 -- ---- tokens
 
@@ -82,18 +85,14 @@ refusal_seen LaterForm = parsing.LaterForm
 abbrev pub right_view : Vec code_item.Item Global → Row (production.SymbolText Id)
 right_view v = right_seen v.items
 
+-- the symbol is among those of a right side of the code
+abbrev pub is_among : Id → List code_item.Item → Bool
+is_among s items = list_any (λ (x : Id). nat_eq s.0 x.0) (symbols_of (right_seen items))
+
 -- what the first word of a path has to be
 abbrev pub head_seen : code_head.Head → production.Head Id
 head_seen (heads.AmongSymbols mother right) = production.AmongSymbols (mother ∷ symbols_of (right_seen right.now))
 head_seen heads.AnyAttribute = production.AnyAttribute
-
--- an equation of a rule of the code, as an item
-abbrev pub equation_item : Element → Item (EquationText Id)
-equation_item e = Single (element_seen e)
-
--- a feature of the code, as an item
-abbrev pub feature_item : Element → Item (FeatureText Id)
-feature_item e = Single (Equates (element_seen e))
 
 -- the equations of a rule of the code
 abbrev pub equations_view : Vec Element Global → Row (EquationText Id)
@@ -135,18 +134,26 @@ cause_at LaterForm p = cause.LaterForm p.line p.column
 abbrev pub IsRefusedAt : parsing.Refusal Id → ℕ → ℕ → Place → Outcome Lexeme Id → Type 0
 IsRefusedAt r line column end o = (rest : List Lexeme) × (o ≡ Refused r rest) × (record { line = line; column = column } ≡ first_place end rest)
 
+-- the clauses of these lexemes are these rules
+abbrev pub AreRules : List RuleText → List Lexeme → List Lexeme → Type 0
+AreRules rules ls rest = clauses by_id stage (length ls) [] ls ≡ Got (map rule_view rules) rest
+
 -- the answer is what lexemes stand for that end at this place, unless memory ran out
-abbrev pub Answers : Id → Place → Result Grammar (fault.Fault GrammarCause) → Outcome Lexeme Id → Type 0
-Answers cat end (Ok g) o = o ≡ Stands (grammar_seen cat g)
-Answers cat end (Err faulty.Memory) o = Unit {0}
-Answers cat end (Err (faulty.Refused (cause.NotUtf8 at))) o = ⊥
-Answers cat end (Err (faulty.Refused (cause.BadToken line column))) o = ⊥
-Answers cat end (Err (faulty.Refused (cause.Expected line column what))) o = IsRefusedAt (parsing.Expected what) line column end o
-Answers cat end (Err (faulty.Refused (cause.NotAConstituent line column))) o = IsRefusedAt parsing.NotAConstituent line column end o
-Answers cat end (Err (faulty.Refused (cause.PathTooLong line column))) o = IsRefusedAt parsing.PathTooLong line column end o
-Answers cat end (Err (faulty.Refused (cause.TooManySymbols line column))) o = IsRefusedAt parsing.TooManySymbols line column end o
-Answers cat end (Err (faulty.Refused cause.NoRules)) o = o ≡ production.NoRules
-Answers cat end (Err (faulty.Refused (cause.LaterForm line column))) o = IsRefusedAt parsing.LaterForm line column end o
+abbrev pub Answers : Place → Result Grammar (fault.Fault GrammarCause) → Outcome Lexeme Id → Type 0
+Answers end (Ok g) o = o ≡ Stands (grammar_seen g)
+Answers end (Err faulty.Memory) o = Unit {0}
+Answers end (Err (faulty.Refused (cause.NotUtf8 at))) o = ⊥
+Answers end (Err (faulty.Refused (cause.BadToken line column))) o = ⊥
+Answers end (Err (faulty.Refused (cause.Expected line column what))) o = IsRefusedAt (parsing.Expected what) line column end o
+Answers end (Err (faulty.Refused (cause.NotAConstituent line column))) o = IsRefusedAt parsing.NotAConstituent line column end o
+Answers end (Err (faulty.Refused (cause.PathTooLong line column))) o = IsRefusedAt parsing.PathTooLong line column end o
+Answers end (Err (faulty.Refused (cause.TooManySymbols line column))) o = IsRefusedAt parsing.TooManySymbols line column end o
+Answers end (Err (faulty.Refused cause.NoRules)) o = o ≡ production.NoRules
+Answers end (Err (faulty.Refused (cause.LaterForm line column))) o = IsRefusedAt parsing.LaterForm line column end o
+
+-- the answer is what lexemes stand for whose clauses are these rules
+abbrev pub AnswersRules : List RuleText → Result Grammar (fault.Fault GrammarCause) → Type 0
+AnswersRules rules result = (end : Place) (ls rest : List Lexeme) → AreRules rules ls rest → Answers end result (grammar by_id stage cat_number ls)
 
 -- ---- what the lexemes of features stand for
 

@@ -3,8 +3,8 @@ ghost use Rattle.std.specs.Prelude.{◌≡◌, ◌<◌, ◌≤◌, length, map, 
 ghost use Rattle.patr_model.specs.Built.{stage};
 ghost use Rattle.patr_model.specs.Parsing.{star};
 ghost use Rattle.patr_model.specs.Productions.{head, attributes, path, term, equation, braced, begins_ruleitem, rule_equation, ruleitems, begins_feature, single_feature, feature, elements};
-ghost use Rattle.patr_grammar.specs.Reading.{path_seen, term_seen, equation_seen};
-ghost use Rattle.patr_grammar.specs.Views.{by_id, head_seen, Gives, equation_item, feature_item, equations_view, features_view};
+ghost use Rattle.patr_grammar.specs.Reading.{path_seen, term_seen, equation_seen, element_seen, feature_seen};
+ghost use Rattle.patr_grammar.specs.Views.{by_id, head_seen, Gives, equations_view, features_view};
 
 use crate::grammar::{Element, EquationText, PathText, TermText};
 use crate::head::Head;
@@ -101,7 +101,7 @@ impl Reader<'_> {
 
     /// An equation of a rule. Choices are not built yet.
     fn rule_item(&mut self, head: Head) -> Result<Element, Fault<Refusal>>
-        ensures gives { Gives equation_item result self.new.rest.now (braced by_id 16 stage.groups (begins_ruleitem by_id) (rule_equation by_id stage (head_seen head.entry)) self.old.rest.now) }
+        ensures gives { Gives element_seen result self.new.rest.now (braced by_id 16 stage.groups (begins_ruleitem by_id) (rule_equation by_id stage (head_seen head.entry)) self.old.rest.now) }
         ensures shorter { OnOk result (length self.new.rest.now < length self.old.rest.now) }
     {
         if self.begins(Kind::OpenBrace) {
@@ -133,7 +133,7 @@ impl Reader<'_> {
 
     /// A feature: an equation. Choices and names are not built yet.
     fn feature(&mut self) -> Result<Element, Fault<Refusal>>
-        ensures gives { Gives feature_item result self.new.rest.now (feature by_id stage self.old.rest.now) }
+        ensures gives { Gives feature_seen result self.new.rest.now (feature by_id stage self.old.rest.now) }
         ensures shorter { OnOk result (length self.new.rest.now < length self.old.rest.now) }
     {
         if self.begins(Kind::OpenBrace) {
@@ -148,7 +148,7 @@ impl Reader<'_> {
 
     /// Features as long as one may begin.
     fn features(&mut self) -> Result<Vec<Element>, Fault<Refusal>>
-        ensures gives { Gives (λ v. map feature_item v.items) result self.new.rest.now (star (begins_feature by_id) (feature by_id stage) self.old.rest.now) }
+        ensures gives { Gives (λ v. map feature_seen v.items) result self.new.rest.now (star (begins_feature by_id) (feature by_id stage) self.old.rest.now) }
     {
         let mut features = Vec::new(self.alloc);
         while self.begins_feature() {

@@ -1,6 +1,7 @@
 //! What the bytes of a grammar stand for.
-ghost use Rattle.std.specs.Prelude.{◌≡◌, ◌<◌, ◌≤◌, ◌^◌, length};
+ghost use Rattle.std.specs.Prelude.{◌≡◌, ◌<◌, ◌≤◌, ◌^◌, [], length};
 ghost use Rattle.patr_model.specs.GrammarText.{what_text};
+ghost use Rattle.patr_grammar.specs.Defaults.{paths_seen, by_category};
 
 use patr_model::What;
 use patr_text::Id;
@@ -16,6 +17,7 @@ pub struct SymbolText {
 /// An item of a right side.
 #[derive(Clone, Copy, Debug, PartialEq, Eq)]
 pub enum Item {
+    /// A constituent.
     Symbol(SymbolText),
 }
 
@@ -29,7 +31,9 @@ pub struct PathText {
 /// What a path equals: an atom, or what another path leads to.
 #[derive(Debug, Drop)]
 pub enum TermText {
+    /// This atom.
     Atom(Id),
+    /// What this path leads to.
     Path(PathText),
 }
 
@@ -43,6 +47,7 @@ pub struct EquationText {
 /// An element of a rule's equations or of features.
 #[derive(Debug, Drop)]
 pub enum Element {
+    /// A path equation.
     Equation(EquationText),
 }
 
@@ -60,13 +65,44 @@ pub struct RuleText {
     ghost few: { length right.items ≤ 32 },
 }
 
+/// A template as it is written.
+#[derive(Debug, Drop)]
+pub struct Template {
+    /// The line of its first word, from 1.
+    pub line: u32,
+    pub name: Id,
+    /// The features that the name stands for.
+    pub body: Vec<Element>,
+}
+
+/// A lexical rule as it is written.
+#[derive(Debug, Drop)]
+pub struct LexicalRule {
+    /// The line of its first word, from 1.
+    pub line: u32,
+    pub name: Id,
+    /// In each path the first word is `in` or `out`.
+    pub equations: Vec<EquationText>,
+}
+
 /// A grammar as it is written.
 #[derive(Debug, Drop)]
 pub struct Grammar {
     pub rules: Vec<RuleText>,
+    pub templates: Vec<Template>,
+    pub lexical_rules: Vec<LexicalRule>,
     /// The category that sentences have.
     pub start: Id,
+    /// The paths whose atoms prediction compares.
+    pub restrictor: Vec<Vec<Id>>,
+    /// The attributes that are written first, in this order.
+    pub order: Vec<Id>,
     ghost few: { length rules.items < 2 ^ 32 },
+    // No clause but a rule is built yet.
+    ghost no_templates: { templates.items ≡ [] },
+    ghost no_lexical_rules: { lexical_rules.items ≡ [] },
+    ghost default_restrictor: { paths_seen restrictor.items ≡ by_category },
+    ghost no_order: { order.items ≡ [] },
 }
 
 /// Why bytes stand for no grammar. Lines and columns count from 1, columns in bytes.

@@ -1,10 +1,10 @@
 //! First words of paths.
-ghost use Rattle.std.specs.Prelude.{◌≡◌, ◌∷◌, IfOk, nat_eq};
+ghost use Rattle.std.specs.Prelude.{◌≡◌, ◌∷◌, [], IfOk, nat_eq};
 ghost use Rattle.std.specs.List.{list_any};
 ghost use Rattle.patr_model.specs.Productions.{symbols_of, fits_head, first_word, room, headed};
 ghost use Rattle.patr_text.specs.declared.symbols.Id as ids;
-ghost use Rattle.patr_grammar.specs.Reading.{item_seen, right_seen, path_seen};
-ghost use Rattle.patr_grammar.specs.Views.{by_id, head_seen};
+ghost use Rattle.patr_grammar.specs.Reading.{right_seen, path_seen};
+ghost use Rattle.patr_grammar.specs.Views.{by_id, head_seen, is_among};
 
 use crate::grammar::{Item, PathText};
 use crate::lexeme::Lexeme;
@@ -25,7 +25,7 @@ pub enum Head<'a> {
 
 /// The item is this symbol.
 fn is_symbol(item: &Item, symbol: Id) -> bool
-    ensures { result ≡ nat_eq symbol.0 (item_seen item.now).symbol.0 }
+    ensures { result ≡ is_among symbol (item.now ∷ []) }
 {
     match item {
         Item::Symbol(text) => symbol == text.symbol,
@@ -34,7 +34,7 @@ fn is_symbol(item: &Item, symbol: Id) -> bool
 
 /// The symbol stands on a right side.
 fn is_on(symbol: Id, right: &[Item]) -> bool
-    ensures { result ≡ list_any (λ (x : ids.Id). nat_eq symbol.0 x.0) (symbols_of (right_seen right.now)) }
+    ensures { result ≡ is_among symbol right.now }
 {
     right.iter().any(|item| is_symbol(item, symbol))
 }

@@ -5,7 +5,7 @@ ghost use Rattle.patr_model.specs.declared.notation.What.TheVariants.{Symbol};
 ghost use Rattle.patr_model.specs.Lexemes.{is_kind, is_key, is_symbol, begins};
 ghost use Rattle.patr_model.specs.Parsing.{one, maybe};
 ghost use Rattle.patr_model.specs.Built.{stage};
-ghost use Rattle.patr_model.specs.Productions.{Single, name_tokens, rule_name, opens_equations, begins_outer, item, right_side, rule, clause, clauses};
+ghost use Rattle.patr_model.specs.Productions.{name_tokens, rule_name, opens_equations, begins_outer, item, right_side, rule, clause, clauses};
 ghost use Rattle.patr_grammar.specs.Reading.{item_seen, rule_seen};
 ghost use Rattle.patr_grammar.specs.Views.{by_id, left_over, Gives, GivesAt, right_view, rule_view};
 
@@ -186,7 +186,7 @@ impl Reader<'_> {
 
     /// An item of a right side that may have so many symbols more. Groups are not built yet.
     fn item(&mut self, left: &mut usize) -> Result<Item, Fault<Refusal>>
-        ensures gives { GivesAt (λ i. Single (item_seen i)) result (left_over left.new self.new.rest.now) self.new.rest.now (item by_id stage.groups 16 (left_over left.old self.old.rest.now)) }
+        ensures gives { GivesAt item_seen result (left_over left.new self.new.rest.now) self.new.rest.now (item by_id stage.groups 16 (left_over left.old self.old.rest.now)) }
         ensures shorter { OnOk result (length self.new.rest.now < length self.old.rest.now) }
         ensures no_longer { length self.new.rest.now ≤ length self.old.rest.now }
         ensures one { OnOk result (left.new + 1 ≡ left.old) }

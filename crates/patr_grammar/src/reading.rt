@@ -1,15 +1,14 @@
 //! Reading a grammar.
-ghost use Rattle.std.specs.Prelude.{◌≡◌, ◌+◌, ◌-◌, ◌^◌, ◌<◌, ◌≤◌, [], length, slice_index_or, IfOk, IfErr, IfSome, IfNone};
+ghost use Rattle.std.specs.Prelude.{◌≡◌, ◌+◌, ◌-◌, ◌^◌, ◌<◌, ◌≤◌, length, IfOk, IfErr};
 ghost use Rattle.std.specs.List.{All};
 ghost use Rattle.patr_model.specs.Tokens.{after, start_place};
 ghost use Rattle.patr_model.specs.Built.{stage};
 ghost use Rattle.patr_model.specs.Productions.{grammar, elements};
-ghost use Rattle.patr_text.specs.declared.symbols.Id.{Id};
 ghost use Rattle.patr_text.specs.Texts.{Extends};
-ghost use Rattle.patr_grammar.specs.declared.grammar.RuleText.{RuleText};
+ghost use Rattle.patr_grammar.specs.Defaults.{cat_number};
 ghost use Rattle.patr_grammar.specs.Reading.{StandsFor, IsRefusedFor};
 ghost use Rattle.patr_grammar.specs.Features.{StandForFeatures, AreRefusedFor};
-ghost use Rattle.patr_grammar.specs.Views.{IsSpelled, bytes_of, by_id, cause_at, Answers, AnswersFeatures};
+ghost use Rattle.patr_grammar.specs.Views.{IsSpelled, bytes_of, by_id, cause_at, AnswersRules, Answers, AnswersFeatures};
 
 use crate::grammar::{Element, Grammar, GrammarCause, RuleText};
 use crate::lexeme::Lexeme;
@@ -33,33 +32,39 @@ fn cause_at(refusal: Refusal, place: Place) -> GrammarCause
     }
 }
 
-/// The grammar of these rules, whose start symbol is the first one's category. `None` exactly where
-/// there is no rule.
-fn grammar_of(rules: Vec<RuleText>) -> Option<Grammar>
+/// The grammar of these rules, whose start symbol is the first one's category. `Fault::Refused` says
+/// that there is no rule.
+fn grammar_of(alloc: Global, rules: Vec<RuleText>) -> Result<Grammar, Fault<GrammarCause>>
     requires { length rules.items < 2 ^ 32 }
-    ensures some { IfSome result (λ g. 0 < length rules.items) }
-    ensures rules { IfSome result (λ g. g.rules.items ≡ rules.items) }
-    ensures start { IfSome result (λ g. (default : RuleText) → g.start ≡ (slice_index_or rules.items 0 default).mother.category) }
-    ensures none { IfNone result (rules.items ≡ []) }
+    ensures answers { AnswersRules rules.items result }
+    ensures few { IfOk result (λ g. length g.rules.items ≤ length rules.items) }
 {
     if rules.is_empty() {
-        return None;
+        return Err(Fault::Refused(GrammarCause::NoRules));
     }
-    let start = rules[0].mother.category;
-    Some(Grammar { rules, start })
+    let category = vec![in alloc; Symbols::CAT]?;
+    let restrictor = vec![in alloc; category]?;
+    Ok(Grammar {
+        start: rules[0].mother.category,
+        rules,
+        templates: Vec::new(alloc),
+        lexical_rules: Vec::new(alloc),
+        restrictor,
+        order: Vec::new(alloc),
+    })
 }
 
 /// What the lexemes of a text stand for.
 fn read(alloc: Global, text: &str, lexemes: &[Lexeme]) -> Result<Grammar, Fault<GrammarCause>>
     requires text { length text.now < 2 ^ 32 - 1 }
     requires lexemes { length lexemes.now < 2 ^ 32 }
-    ensures answers { (cat : Id) → Answers cat (after start_place text.now) result (grammar by_id stage cat lexemes.now) }
+    ensures answers { Answers (after start_place text.now) result (grammar by_id stage cat_number lexemes.now) }
     ensures few { IfOk result (λ g. length g.rules.items ≤ length lexemes.now) }
 {
     let rest = lexemes;
     let mut reader = Reader { alloc, rest };
     match reader.clauses() {
-        Ok(rules) => grammar_of(rules).ok_or(Fault::Refused(GrammarCause::NoRules)),
+        Ok(rules) => grammar_of(alloc, rules),
         Err(Fault::Memory) => Err(Fault::Memory),
         Err(Fault::Refused(refusal)) => {
             let place = place_of(text, reader.rest);

@@ -6,12 +6,12 @@ use Rattle.patr_lists.proofs.Alls.{all_map, all_flat}
 use Rattle.patr_model.specs.Bytes.{same_text}
 use Rattle.patr_model.specs.Structure.{HasDistinct, Atom}
 use Rattle.patr_model.specs.Derivation.{RuleVariant, EntryVariant}
-use Rattle.patr_model.specs.Grammar.{Row, Done, Symbol, WrittenEquation, rule_variant_of, single, variants, rule_variants}
+use Rattle.patr_model.specs.Grammar.{Row, Done, single, variants}
 use Rattle.patr_model.specs.Plain.{IsBare, bare, stated, arcs_for, IsFact}
 use Rattle.patr_model.specs.Session.{Numbering}
-use Rattle.patr_model.specs.Productions.{RuleText, Grammar}
+use Rattle.patr_model.specs.Productions.{SymbolText, EquationText, RuleText, Grammar}
 use Rattle.patr_model.specs.LexiconText.{EntryOf}
-use Rattle.patr_model.specs.Build.{Keys, mapped, equation_of, rule_of, feature_variants, gloss_fact, facts_of, entry_variant_of, entry_variants, build}
+use Rattle.patr_model.specs.Build.{Keys, rule_variant_of, rule_variants, feature_variants, gloss_fact, facts_of, entry_variant_of, entry_variants, build}
 use Rattle.patr_laws.specs.Bare.{AreDistinct, HasNoEquations, BuildsAreBare}
 use Rattle.patr_model.proofs.Canonical.{same_true}
 use Rattle.patr_model.proofs.StatedCategories.{categories_are_bare, everything, every_rule, every_entry}
@@ -31,19 +31,17 @@ module _ {W : Type 0} (number : W → ℕ) (keys : Keys) where
   abbrev BareRule : RuleVariant → Type 0
   BareRule rule = (rule.equations ≡ bare keys.cat 0 rule.categories) × (0 < length rule.categories)
 
-  bare_variant : (x : Symbol) (xs : List Symbol) (es : List WrittenEquation) → es ≡ [] → BareRule (rule_variant_of keys.cat (x ∷ xs) es)
-  bare_variant x xs es e = subst (λ fs. BareRule (rule_variant_of keys.cat (x ∷ xs) fs)) (sym e) (
-    append-nil _ ∙ categories_are_bare keys.cat 0 (x ∷ xs),
-    let long = length-map (x ∷ xs) (λ (y : Symbol). y.category) in omega (arith, long),
+  bare_variant : (x : SymbolText W) (xs : List (SymbolText W)) (es : List (EquationText W)) → es ≡ [] → BareRule (rule_variant_of number keys.cat (x ∷ xs) es)
+  bare_variant x xs es e = subst (λ fs. BareRule (rule_variant_of number keys.cat (x ∷ xs) fs)) (sym e) (
+    append-nil _ ∙ categories_are_bare number keys.cat 0 (x ∷ xs),
+    let long = length-map (x ∷ xs) (λ (y : SymbolText W). number y.category) in omega (arith, long),
   )
 
-  bare_rule : (r : RuleText W) → r.equations ≡ Done → AllByRecursion BareRule (rule_variants keys.cat (rule_of number r))
+  bare_rule : (r : RuleText W) → r.equations ≡ Done → AllByRecursion BareRule (rule_variants number keys.cat r)
   bare_rule r e =
-      let w = rule_of number r in
-      let none : w.equations ≡ Done = ap (mapped (equation_of number r.mother.symbol)) e in
-      all_flat BareRule (λ xs. map (rule_variant_of keys.cat (w.mother ∷ xs)) (variants single w.equations)) (λ xs. Unit {0})
-      (λ xs u. all_map BareRule (rule_variant_of keys.cat (w.mother ∷ xs)) (λ es. es ≡ []) (bare_variant w.mother xs) (variants single w.equations) (one_empty single w.equations none))
-      (variants single w.right) (everything (variants single w.right))
+      all_flat BareRule (λ xs. map (rule_variant_of number keys.cat (r.mother ∷ xs)) (variants single r.equations)) (λ xs. Unit {0})
+      (λ xs u. all_map BareRule (rule_variant_of number keys.cat (r.mother ∷ xs)) (λ es. es ≡ []) (bare_variant r.mother xs) (variants single r.equations) (one_empty single r.equations e))
+      (variants single r.right) (everything (variants single r.right))
 
   abbrev BareEntry : EntryVariant → Type 0
   BareEntry entry = (facts : List (ℕ × ℕ)) × (entry.equations ≡ stated facts) × HasDistinct (arcs_for facts) × (entry.chain ≡ []) × IsFact facts keys.cat entry.category

@@ -5,9 +5,8 @@ use Rattle.std.proofs.lemmas.List.{length-map, map-append, take_more}
 use Rattle.std.proofs.lemmas.Option.{slice_get_within}
 use Rattle.patr_model.proofs.Maps.{and_then_some}
 use Rattle.std.proofs.lemmas.Simd.{map-map}
-use Rattle.patr_lists.specs.Numbers.{places}
-use Rattle.patr_model.specs.Build.{build_fault, rules_fault, entries_fault, grammar_first, in_lexicon, rule_of, entry_variants}
-use Rattle.patr_model.specs.Grammar.{rule_variants}
+use Rattle.patr_model.specs.Numbered.{places}
+use Rattle.patr_model.specs.Build.{build_fault, rules_fault, entries_fault, grammar_first, in_lexicon, rule_variants, entry_variants}
 use Rattle.patr_model.proofs.StatedCategories.{are_built}
 use Rattle.patr_text.specs.declared.symbols.Id.{Id}
 use Rattle.patr_grammar.specs.declared.grammar.Grammar.{Grammar}
@@ -26,7 +25,7 @@ use Rattle.patr_library.proofs.RuleItems.{rule_items, rules_rise, every_rule}
 use Rattle.patr_library.proofs.EntryItems.{entry_items, entries_rise, every_entry}
 
 rules_are : (g : Grammar) (l : List Entry) → map variants_of g.rules.items ≡ (built_rules g l).rules
-rules_are g l = sym (map-map (λ r. rule_variants keys.cat (rule_of number r)) rule_seen g.rules.items)
+rules_are g l = sym (map-map (rule_variants number keys.cat) rule_seen g.rules.items)
 
 entries_are : (g : Grammar) (l : List Entry) → map entry_variants_of l ≡ (built_rules g l).entries
 entries_are g l = sym (map-map (entry_variants number keys) entry_seen l)

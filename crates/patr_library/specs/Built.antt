@@ -11,8 +11,7 @@ use Rattle.patr_arena.specs.Blocks.{Extends, with_block}
 use Rattle.patr_library.specs.declared.item.RuleItem.{RuleItem}
 use Rattle.patr_model.specs.Variants.{AreWithin}
 use Rattle.patr_expand.specs.declared.variant.RuleVariant as code
-use Rattle.patr_model.specs.Grammar.{rule_variants}
-use Rattle.patr_model.specs.Build.{rule_of}
+use Rattle.patr_model.specs.Build.{rule_variants}
 use Rattle.patr_grammar.specs.declared.grammar.RuleText.{RuleText}
 use Rattle.patr_grammar.specs.Reading.{rule_seen}
 use Rattle.patr_expand.specs.Seen.{cat, number, equations_at, variant_at}
@@ -87,7 +86,7 @@ StaysWithin x = AreWithin (length x.symbols.items) (equations_at x.equations.ite
 
 -- the variants of a rule of the code
 abbrev pub variants_of : RuleText → List RuleVariant
-variants_of r = rule_variants cat (rule_of number (rule_seen r))
+variants_of r = rule_variants number cat (rule_seen r)
 
 -- variants of the rule or entry with this number, from variant k on
 abbrev pub numbered_from : {X : Type 0} → ℕ → ℕ → List X → List (ℕ × ℕ × X)

@@ -43,9 +43,9 @@ keys = record { cat = 33; lex = 34; gloss = 35 }
 abbrev pub number : Id → ℕ
 number i = i.0
 
--- the grammar as the definitions see it: with the restrictor `<cat>`, as long as no other can be written
+-- the grammar as the definitions see it
 abbrev pub grammar_of : Grammar → production.Grammar Id
-grammar_of g = grammar_seen (record { 0 = 33 }) g
+grammar_of g = grammar_seen g
 
 -- the entries as the definitions see them
 abbrev pub entries_of : List Entry → List (EntryOf Id)

@@ -23,17 +23,8 @@ use patr_expand::{Equation, ExpandCause, SlotPath, Term, expand_features};
 use patr_grammar::Grammar;
 use patr_lexicon::{Entry, Lexicon};
 use patr_scratch::Scratch;
-use patr_text::{Fault, Id};
+use patr_text::{Fault, Id, Symbols};
 use std::alloc::Global;
-
-/// The number of the attribute `cat`.
-const CAT: Id = Id(33);
-
-/// The number of the attribute `lex`.
-const LEX: Id = Id(34);
-
-/// The number of the attribute `gloss`.
-const GLOSS: Id = Id(35);
 
 /// Puts the equation that the entry's value has an atom at an attribute behind others.
 fn push_fact(
@@ -58,10 +49,10 @@ fn facts(alloc: Global, entry: &Entry) -> Result<Vec<Equation>, Memory>
     ensures { IfOk result (λ found. equations_at found.items ≡ stated (facts_of number keys (entry_seen entry.now))) }
 {
     let mut equations = Vec::new(alloc);
-    push_fact(alloc, CAT, entry.category, &mut equations)?;
-    push_fact(alloc, LEX, entry.word, &mut equations)?;
+    push_fact(alloc, Symbols::CAT, entry.category, &mut equations)?;
+    push_fact(alloc, Symbols::LEX, entry.word, &mut equations)?;
     if let Some(gloss) = entry.gloss {
-        push_fact(alloc, GLOSS, gloss, &mut equations)?;
+        push_fact(alloc, Symbols::GLOSS, gloss, &mut equations)?;
     }
     Ok(equations)
 }

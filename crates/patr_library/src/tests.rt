@@ -16,12 +16,6 @@ use std::alloc::{AllocError, Global};
 use std::process::Abort;
 use std::test::Fail;
 
-const CAT: Id = Id(33);
-
-const LEX: Id = Id(34);
-
-const GLOSS: Id = Id(35);
-
 const HEAD: Id = Id(38);
 
 const S: Id = Id(39);
@@ -82,10 +76,10 @@ fn wanted_rule(alloc: Global) -> Result<Least, Memory>
 {
     let mut block = Block::new(alloc);
     let head = Ref::New(top(&mut block, &[])?);
-    let mother = [arc(CAT, Ref::Atom(S)), arc(HEAD, head)];
+    let mother = [arc(Symbols::CAT, Ref::Atom(S)), arc(HEAD, head)];
     let mother = Ref::New(top(&mut block, &mother)?);
-    let first = Ref::New(top(&mut block, &[arc(CAT, Ref::Atom(NP))])?);
-    let second = [arc(CAT, Ref::Atom(VP)), arc(HEAD, head)];
+    let first = Ref::New(top(&mut block, &[arc(Symbols::CAT, Ref::Atom(NP))])?);
+    let second = [arc(Symbols::CAT, Ref::Atom(VP)), arc(HEAD, head)];
     let second = Ref::New(top(&mut block, &second)?);
     let slots = [arc(Id(0), mother), arc(Id(1), first), arc(Id(2), second)];
     let root = top(&mut block, &slots)?;
@@ -98,9 +92,9 @@ fn wanted_entry(alloc: Global) -> Result<Least, Memory>
 {
     let mut block = Block::new(alloc);
     let arcs = [
-        arc(CAT, Ref::Atom(NP)),
-        arc(LEX, Ref::Atom(DOG)),
-        arc(GLOSS, Ref::Atom(HOUND)),
+        arc(Symbols::CAT, Ref::Atom(NP)),
+        arc(Symbols::LEX, Ref::Atom(DOG)),
+        arc(Symbols::GLOSS, Ref::Atom(HOUND)),
     ];
     let root = top(&mut block, &arcs)?;
     Ok(Least { block, root })

@@ -1,17 +1,26 @@
 -- What a build makes depends neither on what stands for the words nor on how they are numbered.
-use Rattle.std.proofs.Common.{◌≡◌, ℕ, ◌+◌, ◌*◌, List, [], ◌∷◌, ◌++◌, map, max, length, codes, Option, Some, None, refl, ap, subst}
+use Rattle.std.proofs.Common.{◌≡◌, ℕ, suc, ◌+◌, ◌*◌, List, [], ◌∷◌, ◌++◌, map, filter_map, max, length, nat_eq, cond, codes, Option, Some, None, option_map, option_and_then, refl, sym, ap, subst}
 use Rattle.patr_model.specs.Equation.{AtomOf, PathOf}
-use Rattle.patr_model.specs.Grammar as model
-use Rattle.patr_model.specs.Grammar.{Row, Rows, Done, One, OneOf, Optional, None', Or, products, variants, variants_of, single, rule_variants}
+use Rattle.patr_model.specs.Grammar.{Row, Rows, Done, One, OneOf, Optional, None', Or, products, variants, variants_of, single}
 use Rattle.patr_model.specs.Plain.{stated}
 use Rattle.patr_model.specs.Session.{Numbering}
 use Rattle.patr_model.specs.Productions.{SymbolText, PathText, TermText, AtomText, OfPath, EquationText, FeatureText, Equates, Names, RuleText, Grammar}
 use Rattle.patr_model.specs.LexiconText.{EntryOf}
-use Rattle.patr_model.specs.Renaming.{Each, Both, SameRow, SameRows', AreOne, SamePath, SameTerm, SameEquation, SameRule, SameEntry, SameGrounds, SameSymbol, SameWrittenPath, SameWrittenTerm, SameWrittenEquation, SameWrittenRule}
+use Rattle.patr_model.specs.Renaming.{Each, Both, SameRow, SameRows', AreOne, SamePath, SameTerm, SameEquation, SameRule, SameEntry, SameGrounds}
 use Rattle.patr_model.specs.Agreeing.{SameSymbolText, SamePathText, SameTermText, SameEquationText, SameFeatureText, SameRuleText, SameGrammar, SameEntryText}
-use Rattle.patr_model.specs.Build.{mapped, mapped_of, longest, longest_of, Keys, word_or, symbol_of, path_of, term_of, equation_of, rule_of, feature_path, feature_term, feature_variants, gloss_fact, facts_of, entry_variant_of, entry_variants, build, keys_of, grounds, size_fault, first_fault, rule_fault, entry_fault, rules_fault, entries_fault, in_lexicon, grammar_first, build_fault}
+use Rattle.patr_model.specs.Build.{longest, longest_of, Keys, slot_of, head_slot, placed_path, placed_term, placed_equation, category_equations, rule_variant_of, rule_variants, feature_path, feature_term, feature_variants, gloss_fact, facts_of, entry_variant_of, entry_variants, build, keys_of, grounds, size_fault, first_fault, rule_fault, entry_fault, rules_fault, entries_fault, in_lexicon, grammar_first, build_fault}
 use Rattle.patr_model.proofs.Renaming.{each_length}
-use Rattle.patr_model.proofs.RenamedVariants.{all_same, each_append, each_map, variants_same}
+use Rattle.patr_model.proofs.RenamedVariants.{all_same, alone_same, each_append, each_map, each_flat, each_filter, variants_same}
+
+-- members that are equal one by one
+each_equal : {X : Type 0} (xs ys : List X) → Each (λ x y. x ≡ y) xs ys → xs ≡ ys
+each_equal [] [] h = refl
+each_equal (x ∷ xs) (y ∷ ys) h = λ i. h.0 i ∷ each_equal xs ys h.1 i
+each_equal _ _ h = absurd h
+
+equal_option : {X : Type 0} (o u : Option X) → o ≡ u → Both (λ x y. x ≡ y) o u
+equal_option None u e = subst (λ u. Both (λ x y. x ≡ y) None u) e tt
+equal_option (Some x) u e = subst (λ u. Both (λ x y. x ≡ y) (Some x) u) e refl
 
 -- ---- words that have the same numbers
 
@@ -20,19 +29,6 @@ module _ {A B X : Type 0} (R : A → B → Type 0) (f : A → X) (g : B → X) (
   maps_equal [] [] k = refl
   maps_equal (u ∷ us) (v ∷ vs) k = λ i. h u v k.0 i ∷ maps_equal us vs k.1 i
   maps_equal _ _ k = absurd k
-
-  mutual
-    rows_equal : (r : Row A) (s : Row B) → SameRow R r s → mapped f r ≡ mapped g s
-    rows_equal Done Done k = refl
-    rows_equal (One x r) (One y s) k = λ i. One (h x y k.0 i) (rows_equal r s k.1 i)
-    rows_equal (OneOf rs r) (OneOf ss s) k = λ i. OneOf (choices_equal rs ss k.0 i) (rows_equal r s k.1 i)
-    rows_equal (Optional rs r) (Optional ss s) k = λ i. Optional (choices_equal rs ss k.0 i) (rows_equal r s k.1 i)
-    rows_equal _ _ k = absurd k
-
-    choices_equal : (rs : Rows A) (ss : Rows B) → SameRows' R rs ss → mapped_of f rs ≡ mapped_of g ss
-    choices_equal None' None' k = refl
-    choices_equal (Or r rs) (Or s ss) k = λ i. Or (rows_equal r s k.0 i) (choices_equal rs ss k.1 i)
-    choices_equal _ _ k = absurd k
 
 module _ {A B Y : Type 0} (R : A → B → Type 0) (f : A → List (List Y)) (g : B → List (List Y)) (h : (a : A) (b : B) → R a b → f a ≡ g b) where
   mutual
@@ -63,41 +59,55 @@ module _ {A B : Type 0} (R : A → B → Type 0) (f : A → ℕ) (g : B → ℕ)
     longest_of_equal _ _ k = absurd k
 
 module _ {W V : Type 0} (S : W → V → Type 0) (number : W → ℕ) (other : V → ℕ) (same : (a : W) (b : V) → S a b → number a ≡ other b) where
-  symbols_equal : (x : SymbolText W) (y : SymbolText V) → SameSymbolText S x y → symbol_of number x ≡ symbol_of other y
-  symbols_equal x y k = λ i. record { symbol = same x.symbol y.symbol k.symbol i; category = same x.category y.category k.category i }
-
   words_equal : (us : List W) (vs : List V) → Each S us vs → map number us ≡ map other vs
   words_equal us vs k = maps_equal S number other same us vs k
 
-  head_equal : (m : W) (n : V) → S m n → (p : Option W) (q : Option V) → Both S p q → number (word_or m p) ≡ other (word_or n q)
-  head_equal m n k None None b = same m n k
-  head_equal m n k (Some u) (Some v) b = same u v b
-  head_equal m n k _ _ b = absurd b
+  slot_equal : (xs : List (SymbolText W)) (ys : List (SymbolText V)) → Each (SameSymbolText S) xs ys → (w : W) (v : V) → S w v → slot_of number xs (number w) ≡ slot_of other ys (other v)
+  slot_equal [] [] h w v k = refl
+  slot_equal (x ∷ xs) (y ∷ ys) h w v k = λ i. cond (nat_eq (same x.symbol y.symbol h.0.symbol i) (same w v k i)) (Some 0) (option_map (λ n. suc n) (slot_equal xs ys h.1 w v k i))
+  slot_equal _ _ h w v k = absurd h
 
-  module _ (m : W) (n : V) (k : S m n) where
-    path_equal : (p : PathText W) (q : PathText V) → SamePathText S p q → path_of number m p ≡ path_of other n q
-    path_equal p q e = λ i. record { head = head_equal m n k p.head q.head e.head i; path = words_equal p.attributes q.attributes e.attributes i }
+  stated_equal : (cat n : ℕ) (xs : List (SymbolText W)) (ys : List (SymbolText V)) → Each (SameSymbolText S) xs ys → category_equations number cat n xs ≡ category_equations other cat n ys
+  stated_equal cat n [] [] h = refl
+  stated_equal cat n (x ∷ xs) (y ∷ ys) h = λ i. record { left = record { slot = n; path = cat ∷ [] }; right = AtomOf (same x.category y.category h.0.category i) } ∷ stated_equal cat (suc n) xs ys h.1 i
+  stated_equal cat n _ _ h = absurd h
 
-    term_equal : (t : TermText W) (u : TermText V) → SameTermText S t u → term_of number m t ≡ term_of other n u
-    term_equal (AtomText a) (AtomText b) e = ap (λ c. model.AtomText c) (same a b e)
-    term_equal (OfPath p) (OfPath q) e = ap (λ c. model.PathText c) (path_equal p q e)
-    term_equal (AtomText a) (OfPath q) e = absurd e
-    term_equal (OfPath p) (AtomText b) e = absurd e
+  module _ (xs : List (SymbolText W)) (ys : List (SymbolText V)) (h : Each (SameSymbolText S) xs ys) where
+    head_equal : (o : Option W) (u : Option V) → Both S o u → head_slot number xs o ≡ head_slot other ys u
+    head_equal None None b = refl
+    head_equal (Some w) (Some v) b = slot_equal xs ys h w v b
+    head_equal _ _ b = absurd b
 
-    equation_equal : (e : EquationText W) (f : EquationText V) → SameEquationText S e f → equation_of number m e ≡ equation_of other n f
-    equation_equal e f s = λ i. record { left = path_equal e.left f.left s.left i; right = term_equal e.right f.right s.right i }
+    path_equal : (p : PathText W) (q : PathText V) → SamePathText S p q → placed_path number xs p ≡ placed_path other ys q
+    path_equal p q k = λ i. option_map (λ n. record { slot = n; path = words_equal p.attributes q.attributes k.attributes i }) (head_equal p.head q.head k.head i)
 
-  rule_equal : (r : RuleText W) (s : RuleText V) → SameRuleText S r s → rule_of number r ≡ rule_of other s
-  rule_equal r s k =
-      let equations = rows_equal (SameEquationText S) (equation_of number r.mother.symbol) (equation_of other s.mother.symbol)
-      (equation_equal r.mother.symbol s.mother.symbol k.mother.symbol) r.equations s.equations k.equations in
-      λ i. record {
-        line = k.line i;
-        name = words_equal r.name s.name k.name i;
-        mother = symbols_equal r.mother s.mother k.mother i;
-        right = rows_equal (SameSymbolText S) (symbol_of number) (symbol_of other) symbols_equal r.right s.right k.right i;
-        equations = equations i;
-      }
+    term_equal : (t : TermText W) (u : TermText V) → SameTermText S t u → placed_term number xs t ≡ placed_term other ys u
+    term_equal (AtomText a) (AtomText b) k = ap (λ c. Some (AtomOf c)) (same a b k)
+    term_equal (OfPath p) (OfPath q) k = ap (option_map (λ r. PathOf r)) (path_equal p q k)
+    term_equal (AtomText a) (OfPath q) k = absurd k
+    term_equal (OfPath p) (AtomText b) k = absurd k
+
+    equation_equal : (e : EquationText W) (f : EquationText V) → SameEquationText S e f → placed_equation number xs e ≡ placed_equation other ys f
+    equation_equal e f k = λ i. option_and_then (λ l. option_map (λ r. record { left = l; right = r }) (term_equal e.right f.right k.right i)) (path_equal e.left f.left k.left i)
+
+    variant_equal : (cat : ℕ) (es : List (EquationText W)) (fs : List (EquationText V)) → Each (SameEquationText S) es fs → rule_variant_of number cat xs es ≡ rule_variant_of other cat ys fs
+    variant_equal cat es fs k =
+        let placed = each_equal (filter_map (placed_equation number xs) es) (filter_map (placed_equation other ys) fs)
+        (each_filter (λ a b. a ≡ b) (SameEquationText S) (placed_equation number xs) (placed_equation other ys)
+        (λ e f q. equal_option (placed_equation number xs e) (placed_equation other ys f) (equation_equal e f q)) es fs k) in
+        λ i. record {
+          categories = maps_equal (SameSymbolText S) (λ x. number x.category) (λ y. other y.category) (λ x y q. same x.category y.category q.category) xs ys h i;
+          equations = stated_equal cat 0 xs ys h i ++ placed i;
+        }
+
+  rule_equal : (cat : ℕ) (r : RuleText W) (s : RuleText V) → SameRuleText S r s → rule_variants number cat r ≡ rule_variants other cat s
+  rule_equal cat r s k =
+      each_equal (rule_variants number cat r) (rule_variants other cat s)
+      (each_flat (λ a b. a ≡ b) (Each (SameSymbolText S)) (λ xs. map (rule_variant_of number cat (r.mother ∷ xs)) (variants single r.equations)) (λ ys. map (rule_variant_of other cat (s.mother ∷ ys)) (variants single s.equations))
+      (λ xs ys h. each_map (λ a b. a ≡ b) (Each (SameEquationText S)) (rule_variant_of number cat (r.mother ∷ xs)) (rule_variant_of other cat (s.mother ∷ ys))
+      (variant_equal (r.mother ∷ xs) (s.mother ∷ ys) (k.mother, h) cat)
+      (variants single r.equations) (variants single s.equations) (alone_same (SameEquationText S) r.equations s.equations k.equations))
+      (variants single r.right) (variants single s.right) (alone_same (SameSymbolText S) r.right s.right k.right))
 
   feature_path_equal : (p : PathText W) (q : PathText V) → SamePathText S p q → feature_path number p ≡ feature_path other q
   feature_path_equal p q e = λ i. record { slot = 0; path = words_equal p.attributes q.attributes e.attributes i }
@@ -133,8 +143,7 @@ module _ {W V : Type 0} (S : W → V → Type 0) (number : W → ℕ) (other : V
 
     pub same_build : (g : Grammar W) (h : Grammar V) (l : List (EntryOf W)) (k : List (EntryOf V)) → SameGrammar S g h → Each (SameEntryText S) l k → build number keys g l ≡ build other keys h k
     same_build g h l k e f =
-        let rules = maps_equal (SameRuleText S) (λ r. rule_variants keys.cat (rule_of number r)) (λ r. rule_variants keys.cat (rule_of other r))
-        (λ r s q. ap (rule_variants keys.cat) (rule_equal r s q)) g.rules h.rules e.rules in
+        let rules = maps_equal (SameRuleText S) (rule_variants number keys.cat) (rule_variants other keys.cat) (rule_equal keys.cat) g.rules h.rules e.rules in
         let entries = maps_equal (SameEntryText S) (entry_variants number keys) (entry_variants other keys) entry_equal l k f in
         let restrictor = maps_equal (Each S) (map number) (map other) words_equal g.restrictor h.restrictor e.restrictor in
         λ i. record { rules = rules i; entries = entries i; start = same g.start h.start e.start i; restrictor = restrictor i }
@@ -143,7 +152,7 @@ module _ {W V : Type 0} (S : W → V → Type 0) (number : W → ℕ) (other : V
 
 module _ {W V : Type 0} (S : W → V → Type 0) where
   blank : {A B : Type 0} (R : A → B → Type 0) (r : Row A) (s : Row B) → SameRow R r s → length (variants single r) ≡ length (variants single s)
-  blank R r s k = each_length (Each R) (variants single r) (variants single s) (variants_same R R single single (λ a b q. ((q, tt), tt)) r s k)
+  blank R r s k = each_length (Each R) (variants single r) (variants single s) (alone_same R r s k)
 
   rule_fault_equal : (r : RuleText W) (s : RuleText V) → SameRuleText S r s → rule_fault r ≡ rule_fault s
   rule_fault_equal r s k =
@@ -177,55 +186,46 @@ module _ {W V : Type 0} (S : W → V → Type 0) where
 -- ---- another numbering
 
 mutual
-  row_itself : {A : Type 0} (r : Row A) → SameRow (λ a b. a ≡ b) r r
-  row_itself Done = tt
-  row_itself (One x r) = (refl, row_itself r)
-  row_itself (OneOf rs r) = (choice_itself rs, row_itself r)
-  row_itself (Optional rs r) = (choice_itself rs, row_itself r)
+  row_itself : {A : Type 0} (R : A → A → Type 0) → ((a : A) → R a a) → (r : Row A) → SameRow R r r
+  row_itself R h Done = tt
+  row_itself R h (One x r) = (h x, row_itself R h r)
+  row_itself R h (OneOf rs r) = (choice_itself R h rs, row_itself R h r)
+  row_itself R h (Optional rs r) = (choice_itself R h rs, row_itself R h r)
 
-  choice_itself : {A : Type 0} (rs : Rows A) → SameRows' (λ a b. a ≡ b) rs rs
-  choice_itself None' = tt
-  choice_itself (Or r rs) = (row_itself r, choice_itself rs)
+  choice_itself : {A : Type 0} (R : A → A → Type 0) → ((a : A) → R a a) → (rs : Rows A) → SameRows' R rs rs
+  choice_itself R h None' = tt
+  choice_itself R h (Or r rs) = (row_itself R h r, choice_itself R h rs)
+
+words_itself : {W : Type 0} (ws : List W) → Each (λ a b. a ≡ b) ws ws
+words_itself [] = tt
+words_itself (w ∷ ws) = (refl, words_itself ws)
+
+symbol_itself : {W : Type 0} (x : SymbolText W) → SameSymbolText (λ a b. a ≡ b) x x
+symbol_itself x = record { symbol = refl; category = refl }
+
+path_itself : {W : Type 0} (p : PathText W) → SamePathText (λ a b. a ≡ b) p p
+path_itself p = record { head = equal_option p.head p.head refl; attributes = words_itself p.attributes }
+
+equation_itself : {W : Type 0} (e : EquationText W) → SameEquationText (λ a b. a ≡ b) e e
+equation_itself {W = W} e = record { left = path_itself e.left; right = go e.right }
+  where
+    go : (t : TermText W) → SameTermText (λ a b. a ≡ b) t t
+    go (AtomText a) = refl
+    go (OfPath p) = path_itself p
 
 module _ {A B C : Type 0} (Q : B → C → Type 0) (f : A → B) (g : A → C) (h : (a : A) → Q (f a) (g a)) where
   list_made : (xs : List A) → Each Q (map f xs) (map g xs)
   list_made [] = tt
   list_made (x ∷ xs) = (h x, list_made xs)
 
-  mutual
-    row_made : (r : Row A) → SameRow Q (mapped f r) (mapped g r)
-    row_made Done = tt
-    row_made (One x r) = (h x, row_made r)
-    row_made (OneOf rs r) = (choice_made rs, row_made r)
-    row_made (Optional rs r) = (choice_made rs, row_made r)
-
-    choice_made : (rs : Rows A) → SameRows' Q (mapped_of f rs) (mapped_of g rs)
-    choice_made None' = tt
-    choice_made (Or r rs) = (row_made r, choice_made rs)
-
 module _ (N X : Numbering) where
   words_made : (ws : List (List ℕ)) → Each (AreOne N X) (map N.number ws) (map X.number ws)
   words_made ws = list_made (AreOne N X) N.number X.number (λ w. (w, refl, refl)) ws
 
-  symbol_made : (x : SymbolText (List ℕ)) → SameSymbol N X (symbol_of N.number x) (symbol_of X.number x)
-  symbol_made x = record { symbol = (x.symbol, refl, refl); category = (x.category, refl, refl) }
-
-  path_made : (m : List ℕ) (p : PathText (List ℕ)) → SameWrittenPath N X (path_of N.number m p) (path_of X.number m p)
-  path_made m p = record { head = (word_or m p.head, refl, refl); path = words_made p.attributes }
-
-  term_made : (m : List ℕ) (t : TermText (List ℕ)) → SameWrittenTerm N X (term_of N.number m t) (term_of X.number m t)
-  term_made m (AtomText a) = (a, refl, refl)
-  term_made m (OfPath p) = path_made m p
-
-  equation_made : (m : List ℕ) (e : EquationText (List ℕ)) → SameWrittenEquation N X (equation_of N.number m e) (equation_of X.number m e)
-  equation_made m e = record { left = path_made m e.left; right = term_made m e.right }
-
-  rule_made : (r : RuleText (List ℕ)) → SameWrittenRule N X (rule_of N.number r) (rule_of X.number r)
-  rule_made r = record {
-    mother = symbol_made r.mother;
-    right = row_made (SameSymbol N X) (symbol_of N.number) (symbol_of X.number) symbol_made r.right;
-    equations = row_made (SameWrittenEquation N X) (equation_of N.number r.mother.symbol) (equation_of X.number r.mother.symbol) (equation_made r.mother.symbol) r.equations;
-  }
+  rule_made : (r : RuleText (List ℕ)) → Each (SameRule N X) (rule_variants N.number (N.number (codes "cat")) r) (rule_variants X.number (X.number (codes "cat")) r)
+  rule_made r =
+      all_same N X (λ a b. a ≡ b) N.number X.number (λ a b e. (a, refl, ap X.number (sym e))) (N.number (codes "cat")) (X.number (codes "cat")) (codes "cat", refl, refl) r r
+      (symbol_itself r.mother) (row_itself (SameSymbolText (λ a b. a ≡ b)) symbol_itself r.right) (row_itself (SameEquationText (λ a b. a ≡ b)) equation_itself r.equations)
 
   feature_path_made : (p : PathText (List ℕ)) → SamePath N X (feature_path N.number p) (feature_path X.number p)
   feature_path_made p = record { slot = refl; path = words_made p.attributes }
@@ -263,15 +263,13 @@ module _ (N X : Numbering) where
       })
       (variants (feature_variants N.number) e.features) (variants (feature_variants X.number) e.features)
       (variants_same (λ a b. a ≡ b) (SameEquation N X) (feature_variants N.number) (feature_variants X.number)
-      (λ a b q. subst (λ f. Each (Each (SameEquation N X)) (feature_variants N.number a) (feature_variants X.number f)) q (feature_made a)) e.features e.features (row_itself e.features))
+      (λ a b q. subst (λ f. Each (Each (SameEquation N X)) (feature_variants N.number a) (feature_variants X.number f)) q (feature_made a)) e.features e.features (row_itself (λ a b. a ≡ b) (λ a. refl) e.features))
 
   pub same_grounds : (g : Grammar (List ℕ)) (l : List (EntryOf (List ℕ))) → SameGrounds (grounds N g l) (grounds X g l)
   same_grounds g l =
-      let one : AreOne N X (N.number (codes "cat")) (X.number (codes "cat")) = (codes "cat", refl, refl) in
       record {
         rules = record {
-          rules = list_made (Each (SameRule N X)) (λ r. rule_variants (N.number (codes "cat")) (rule_of N.number r)) (λ r. rule_variants (X.number (codes "cat")) (rule_of X.number r))
-              (λ r. all_same N X (N.number (codes "cat")) (X.number (codes "cat")) (rule_of N.number r) (rule_of X.number r) one (rule_made r)) g.rules;
+          rules = list_made (Each (SameRule N X)) (rule_variants N.number (N.number (codes "cat"))) (rule_variants X.number (X.number (codes "cat"))) rule_made g.rules;
           entries = list_made (Each (SameEntry N X)) (entry_variants N.number (keys_of N)) (entry_variants X.number (keys_of X)) entry_made l;
           start = (g.start, refl, refl);
           restrictor = list_made (Each (AreOne N X)) (map N.number) (map X.number) words_made g.restrictor;

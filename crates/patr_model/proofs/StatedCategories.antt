@@ -5,13 +5,12 @@ use Rattle.std.proofs.lemmas.List.{length-map}
 use Rattle.patr_lists.proofs.Alls.{all_at, all_map, all_flat}
 use Rattle.patr_model.specs.Equation.{SlotPath, Term, AtomOf, PathOf, Equation}
 use Rattle.patr_model.specs.Derivation.{RuleVariant, EntryVariant, rule_variant, entry_variant}
-use Rattle.patr_model.specs.Grammar.{Symbol, WrittenPath, WrittenTerm, AtomText, PathText, WrittenEquation, WrittenRule, slot_of, placed_path, placed_term, placed_equation, category_equations, rule_variant_of, single, variants, rule_variants}
+use Rattle.patr_model.specs.Grammar.{single, variants}
 use Rattle.patr_model.specs.Plain.{bare, stated, IsFact}
-use Rattle.patr_model.specs.Productions as text
-use Rattle.patr_model.specs.Productions.{RuleText, FeatureText, Equates, Names, Grammar}
+use Rattle.patr_model.specs.Productions.{SymbolText, PathText, TermText, AtomText, OfPath, EquationText, RuleText, FeatureText, Equates, Names, Grammar}
 use Rattle.patr_model.specs.LexiconText.{EntryOf}
 use Rattle.patr_model.specs.Variants.{TermWithin, IsWithin, AreWithin}
-use Rattle.patr_model.specs.Build.{Keys, rule_of, feature_term, feature_variants, facts_of, entry_variant_of, entry_variants, build}
+use Rattle.patr_model.specs.Build.{slot_of, head_slot, placed_path, placed_term, placed_equation, category_equations, rule_variant_of, rule_variants, Keys, feature_term, feature_variants, facts_of, entry_variant_of, entry_variants, build}
 use Rattle.patr_model.specs.Builds.{AreBuilt}
 use Rattle.patr_model.proofs.Maps.{some_inj, and_then_some}
 use Rattle.patr_model.proofs.Members.{at_is_member, variants_all}
@@ -23,47 +22,52 @@ abbrev IfSome : {X : Type 0} → (X → Type 0) → Option X → Type 0
 IfSome P None = Unit {0}
 IfSome P (Some x) = P x
 
-slot_within : (xs : List Symbol) (s : ℕ) → IfSome (λ n. n < length xs) (slot_of xs s)
-slot_within [] s = tt
-slot_within (x ∷ xs) s = go (nat_eq x.symbol s) (slot_of xs s) (slot_within xs s)
-  where
-    go : (b : Bool) (o : Option ℕ) → IfSome (λ n. n < length xs) o → IfSome (λ n. n < suc (length xs)) (cond b (Some 0) (option_map (λ n. suc n) o))
-    go true o h = omega arith
-    go false None h = tt
-    go false (Some n) h = omega (arith, h)
-
-module _ (xs : List Symbol) where
-  path_within : (p : WrittenPath) → IfSome (λ q. q.slot < length xs) (placed_path xs p)
-  path_within p = go (slot_of xs p.head) (slot_within xs p.head)
+module _ {W : Type 0} (number : W → ℕ) where
+  slot_within : (xs : List (SymbolText W)) (s : ℕ) → IfSome (λ n. n < length xs) (slot_of number xs s)
+  slot_within [] s = tt
+  slot_within (x ∷ xs) s = go (nat_eq (number x.symbol) s) (slot_of number xs s) (slot_within xs s)
     where
-      go : (o : Option ℕ) → IfSome (λ n. n < length xs) o → IfSome (λ (q : SlotPath). q.slot < length xs) (option_map (λ n. record { slot = n; path = p.path }) o)
-      go None h = tt
-      go (Some n) h = h
+      go : (b : Bool) (o : Option ℕ) → IfSome (λ n. n < length xs) o → IfSome (λ n. n < suc (length xs)) (cond b (Some 0) (option_map (λ n. suc n) o))
+      go true o h = omega arith
+      go false None h = tt
+      go false (Some n) h = omega (arith, h)
 
-  term_within : (t : WrittenTerm) → IfSome (TermWithin (length xs)) (placed_term xs t)
-  term_within (AtomText c) = tt
-  term_within (PathText p) = go (placed_path xs p) (path_within p)
-    where
-      go : (o : Option SlotPath) → IfSome (λ q. q.slot < length xs) o → IfSome (TermWithin (length xs)) (option_map (λ q. PathOf q) o)
-      go None h = tt
-      go (Some q) h = h
+  module _ (x : SymbolText W) (xs : List (SymbolText W)) where
+    path_within : (p : PathText W) → IfSome (λ q. q.slot < length (x ∷ xs)) (placed_path number (x ∷ xs) p)
+    path_within p = go (head_slot number (x ∷ xs) p.head) (head p.head)
+      where
+        head : (o : Option W) → IfSome (λ n. n < length (x ∷ xs)) (head_slot number (x ∷ xs) o)
+        head None = omega arith
+        head (Some w) = slot_within (x ∷ xs) (number w)
 
-  equation_within : (e : WrittenEquation) → IfSome (IsWithin (length xs)) (placed_equation xs e)
-  equation_within e = go (placed_path xs e.left) (placed_term xs e.right) (path_within e.left) (term_within e.right)
-    where
-      go : (o : Option SlotPath) (u : Option Term) → IfSome (λ q. q.slot < length xs) o → IfSome (TermWithin (length xs)) u
-          → IfSome (IsWithin (length xs)) (option_and_then (λ l. option_map (λ r. record { left = l; right = r }) u) o)
-      go None u h k = tt
-      go (Some l) None h k = tt
-      go (Some l) (Some r) h k = (h, k)
+        go : (o : Option ℕ) → IfSome (λ n. n < length (x ∷ xs)) o → IfSome (λ (q : SlotPath). q.slot < length (x ∷ xs)) (option_map (λ n. record { slot = n; path = map number p.attributes }) o)
+        go None h = tt
+        go (Some n) h = h
 
-  placed_within : (es : List WrittenEquation) → AreWithin (length xs) (filter_map (placed_equation xs) es)
-  placed_within [] = tt
-  placed_within (e ∷ es) = go (placed_equation xs e) (equation_within e) (filter_map (placed_equation xs) es) (placed_within es)
-    where
-      go : (o : Option Equation) → IfSome (IsWithin (length xs)) o → (fs : List Equation) → AreWithin (length xs) fs → AreWithin (length xs) (cons_option o fs)
-      go None h fs k = k
-      go (Some f) h fs k = (h, k)
+    term_within : (t : TermText W) → IfSome (TermWithin (length (x ∷ xs))) (placed_term number (x ∷ xs) t)
+    term_within (AtomText a) = tt
+    term_within (OfPath p) = go (placed_path number (x ∷ xs) p) (path_within p)
+      where
+        go : (o : Option SlotPath) → IfSome (λ q. q.slot < length (x ∷ xs)) o → IfSome (TermWithin (length (x ∷ xs))) (option_map (λ q. PathOf q) o)
+        go None h = tt
+        go (Some q) h = h
+
+    equation_within : (e : EquationText W) → IfSome (IsWithin (length (x ∷ xs))) (placed_equation number (x ∷ xs) e)
+    equation_within e = go (placed_path number (x ∷ xs) e.left) (placed_term number (x ∷ xs) e.right) (path_within e.left) (term_within e.right)
+      where
+        go : (o : Option SlotPath) (u : Option Term) → IfSome (λ q. q.slot < length (x ∷ xs)) o → IfSome (TermWithin (length (x ∷ xs))) u
+            → IfSome (IsWithin (length (x ∷ xs))) (option_and_then (λ l. option_map (λ r. record { left = l; right = r }) u) o)
+        go None u h k = tt
+        go (Some l) None h k = tt
+        go (Some l) (Some r) h k = (h, k)
+
+    placed_within : (es : List (EquationText W)) → AreWithin (length (x ∷ xs)) (filter_map (placed_equation number (x ∷ xs)) es)
+    placed_within [] = tt
+    placed_within (e ∷ es) = go (placed_equation number (x ∷ xs) e) (equation_within e) (filter_map (placed_equation number (x ∷ xs)) es) (placed_within es)
+      where
+        go : (o : Option Equation) → IfSome (IsWithin (length (x ∷ xs))) o → (fs : List Equation) → AreWithin (length (x ∷ xs)) fs → AreWithin (length (x ∷ xs)) (cons_option o fs)
+        go None h fs k = k
+        go (Some f) h fs k = (h, k)
 
 pub within_append : (n : ℕ) (es fs : List Equation) → AreWithin n es → AreWithin n fs → AreWithin n (es ++ fs)
 within_append n [] fs h k = k
@@ -75,36 +79,39 @@ bare_within n cat k (c ∷ cs) h = ((omega (arith, h), tt), bare_within n cat (s
 
 -- ---- rules
 
-pub categories_are_bare : (cat k : ℕ) (xs : List Symbol) → category_equations cat k xs ≡ bare cat k (map (λ (x : Symbol). x.category) xs)
-categories_are_bare cat k [] = refl
-categories_are_bare cat k (x ∷ xs) = ap (λ es. record { left = record { slot = k; path = cat ∷ [] }; right = AtomOf x.category } ∷ es) (categories_are_bare cat (suc k) xs)
-
 abbrev RuleIsBuilt : ℕ → RuleVariant → Type 0
 RuleIsBuilt cat rule = (0 < length rule.categories) × ((more : List Equation) × (rule.equations ≡ bare cat 0 rule.categories ++ more)) × AreWithin (length rule.categories) rule.equations
 
-variant_is_built : (cat : ℕ) (x : Symbol) (xs : List Symbol) (es : List WrittenEquation) → RuleIsBuilt cat (rule_variant_of cat (x ∷ xs) es)
-variant_is_built cat x xs es =
-    let long : length (map (λ (y : Symbol). y.category) (x ∷ xs)) ≡ length (x ∷ xs) = length-map (x ∷ xs) (λ y. y.category) in
-    let placed = filter_map (placed_equation (x ∷ xs)) es in
-    let e = categories_are_bare cat 0 (x ∷ xs) in (
-      omega (arith, long),
-      (placed, ap (λ fs. fs ++ placed) e),
-      subst (λ n. AreWithin n (category_equations cat 0 (x ∷ xs) ++ placed)) (sym long)
-          (within_append (length (x ∷ xs)) (category_equations cat 0 (x ∷ xs)) placed
-          (subst (AreWithin (length (x ∷ xs))) (sym e) (bare_within (length (x ∷ xs)) cat 0 (map (λ (y : Symbol). y.category) (x ∷ xs)) (omega (arith, long))))
-          (placed_within (x ∷ xs) es)),
-    )
+module _ {W : Type 0} (number : W → ℕ) where
+  pub categories_are_bare : (cat k : ℕ) (xs : List (SymbolText W)) → category_equations number cat k xs ≡ bare cat k (map (λ (x : SymbolText W). number x.category) xs)
+  categories_are_bare cat k [] = refl
+  categories_are_bare cat k (x ∷ xs) = ap (λ es. record { left = record { slot = k; path = cat ∷ [] }; right = AtomOf (number x.category) } ∷ es) (categories_are_bare cat (suc k) xs)
+
+  variant_is_built : (cat : ℕ) (x : SymbolText W) (xs : List (SymbolText W)) (es : List (EquationText W)) → RuleIsBuilt cat (rule_variant_of number cat (x ∷ xs) es)
+  variant_is_built cat x xs es =
+      let cs = map (λ (y : SymbolText W). number y.category) (x ∷ xs) in
+      let long : length cs ≡ length (x ∷ xs) = length-map (x ∷ xs) (λ y. number y.category) in
+      let placed = filter_map (placed_equation number (x ∷ xs)) es in
+      let e = categories_are_bare cat 0 (x ∷ xs) in (
+        omega (arith, long),
+        (placed, ap (λ fs. fs ++ placed) e),
+        subst (λ n. AreWithin n (category_equations number cat 0 (x ∷ xs) ++ placed)) (sym long)
+            (within_append (length (x ∷ xs)) (category_equations number cat 0 (x ∷ xs)) placed
+            (subst (AreWithin (length (x ∷ xs))) (sym e) (bare_within (length (x ∷ xs)) cat 0 cs (omega (arith, long))))
+            (placed_within number x xs es)),
+      )
 
 -- every member has the property that holds of everything
 pub everything : {X : Type 0} (xs : List X) → AllByRecursion (λ x. Unit {0}) xs
 everything [] = tt
 everything (x ∷ xs) = (tt, everything xs)
 
-rule_is_built : (cat : ℕ) (r : WrittenRule) → AllByRecursion (RuleIsBuilt cat) (rule_variants cat r)
-rule_is_built cat r =
-    all_flat (RuleIsBuilt cat) (λ xs. map (rule_variant_of cat (r.mother ∷ xs)) (variants single r.equations)) (λ xs. Unit {0})
-    (λ xs u. all_map (RuleIsBuilt cat) (rule_variant_of cat (r.mother ∷ xs)) (λ es. Unit {0}) (λ es v. variant_is_built cat r.mother xs es) (variants single r.equations) (everything (variants single r.equations)))
-    (variants single r.right) (everything (variants single r.right))
+module _ {W : Type 0} (number : W → ℕ) where
+  rule_is_built : (cat : ℕ) (r : RuleText W) → AllByRecursion (RuleIsBuilt cat) (rule_variants number cat r)
+  rule_is_built cat r =
+      all_flat (RuleIsBuilt cat) (λ xs. map (rule_variant_of number cat (r.mother ∷ xs)) (variants single r.equations)) (λ xs. Unit {0})
+      (λ xs u. all_map (RuleIsBuilt cat) (rule_variant_of number cat (r.mother ∷ xs)) (λ es. Unit {0}) (λ es v. variant_is_built number cat r.mother xs es) (variants single r.equations) (everything (variants single r.equations)))
+      (variants single r.right) (everything (variants single r.right))
 
 -- its equation is among them
 pub stated_at : (cat n : ℕ) (cs : List ℕ) (more : List Equation) (i j c : ℕ) → n + i ≡ j → slice_get cs i ≡ Some c
@@ -121,9 +128,9 @@ module _ {W : Type 0} (number : W → ℕ) (keys : Keys) where
   feature_within : (f : FeatureText W) → AllByRecursion (AreWithin 1) (feature_variants number f)
   feature_within (Equates e) = (((omega arith, term_in e.right), tt), tt)
     where
-      term_in : (t : text.TermText W) → TermWithin 1 (feature_term number t)
-      term_in (text.AtomText a) = tt
-      term_in (text.OfPath p) = omega arith
+      term_in : (t : TermText W) → TermWithin 1 (feature_term number t)
+      term_in (AtomText a) = tt
+      term_in (OfPath p) = omega arith
   feature_within (Names w p) = tt
 
   pub stated_within : (fs : List (ℕ × ℕ)) → AreWithin 1 (stated fs)
@@ -145,12 +152,12 @@ module _ {W : Type 0} (number : W → ℕ) (keys : Keys) where
 
   module _ (g : Grammar W) (l : List (EntryOf W)) where
     -- what holds of the variants of each rule holds of each variant
-    pub every_rule : (P : RuleVariant → Type 0) (Q : RuleText W → Type 0) → ((r : RuleText W) → Q r → AllByRecursion P (rule_variants keys.cat (rule_of number r))) → AllByRecursion Q g.rules
+    pub every_rule : (P : RuleVariant → Type 0) (Q : RuleText W → Type 0) → ((r : RuleText W) → Q r → AllByRecursion P (rule_variants number keys.cat r)) → AllByRecursion Q g.rules
         → (r k : ℕ) (rule : RuleVariant) → rule_variant (build number keys g l) r k ≡ Some rule → P rule
     every_rule P Q made all r k rule h =
         let rules = (build number keys g l).rules in
         let vs = and_then_some (slice_get rules r) (λ vs. slice_get vs k) rule h in
-        all_at P vs.0 (all_at (AllByRecursion P) rules (all_map (AllByRecursion P) (λ r. rule_variants keys.cat (rule_of number r)) Q made g.rules all) r vs.0 vs.1) k rule vs.2
+        all_at P vs.0 (all_at (AllByRecursion P) rules (all_map (AllByRecursion P) (rule_variants number keys.cat) Q made g.rules all) r vs.0 vs.1) k rule vs.2
 
     -- and of entries
     pub every_entry : (P : EntryVariant → Type 0) (Q : EntryOf W → Type 0) → ((e : EntryOf W) → Q e → AllByRecursion P (entry_variants number keys e)) → AllByRecursion Q l
@@ -161,7 +168,7 @@ module _ {W : Type 0} (number : W → ℕ) (keys : Keys) where
         all_at P vs.0 (all_at (AllByRecursion P) entries (all_map (AllByRecursion P) (entry_variants number keys) Q made l all) e vs.0 vs.1) k entry vs.2
 
     rule_at : (r k : ℕ) (rule : RuleVariant) → rule_variant (build number keys g l) r k ≡ Some rule → RuleIsBuilt keys.cat rule
-    rule_at = every_rule (RuleIsBuilt keys.cat) (λ r. Unit {0}) (λ r u. rule_is_built keys.cat (rule_of number r)) (everything g.rules)
+    rule_at = every_rule (RuleIsBuilt keys.cat) (λ r. Unit {0}) (λ r u. rule_is_built number keys.cat r) (everything g.rules)
 
     entry_at : (e k : ℕ) (entry : EntryVariant) → entry_variant (build number keys g l) e k ≡ Some entry → EntryIsBuilt entry
     entry_at = every_entry EntryIsBuilt (λ e. Unit {0}) (λ e u. entry_is_built e) (everything l)

@@ -1,11 +1,10 @@
 -- What a build makes of a grammar and a lexicon that are read: the variants of their rules and entries, or the first of them that is too large.
 --     build number keys g l      the variants, by the numbers that the words of g and l have
 --     build_fault g l            the first rule or entry that has too many variants or equations
-use Rattle.std.specs.Prelude.{ℕ, ◌+◌, ◌*◌, ◌^◌, List, [], ◌∷◌, ◌++◌, length, map, cond, nat_lt, min, max, Option, Some, None, codes, decimal}
+use Rattle.std.specs.Prelude.{ℕ, suc, ◌+◌, ◌*◌, ◌^◌, List, [], ◌∷◌, ◌++◌, length, map, flat_map, filter_map, cond, nat_eq, nat_lt, min, max, Option, Some, None, option_map, option_and_then, codes, decimal}
 use Rattle.patr_model.specs.Equation.{SlotPath, Term, AtomOf, PathOf, Equation}
-use Rattle.patr_model.specs.Derivation.{Rules, EntryVariant}
-use Rattle.patr_model.specs.Grammar as model
-use Rattle.patr_model.specs.Grammar.{Row, Rows, Done, One, OneOf, Optional, None', Or, variants, single, rule_variants}
+use Rattle.patr_model.specs.Derivation.{Rules, RuleVariant, EntryVariant}
+use Rattle.patr_model.specs.Grammar.{Row, Rows, Done, One, OneOf, Optional, None', Or, variants, single}
 use Rattle.patr_model.specs.Plain.{stated}
 use Rattle.patr_model.specs.Session.{Numbering, Grounds}
 use Rattle.patr_model.specs.Faults.{at_line}
@@ -13,19 +12,6 @@ use Rattle.patr_model.specs.Productions.{SymbolText, PathText, TermText, AtomTex
 use Rattle.patr_model.specs.LexiconText.{EntryOf}
 
 -- ---- rows
-
--- the row with other single things in the same places
-abbrev mutual
-  pub mapped : {X Y : Type 0} → (X → Y) → Row X → Row Y
-  mapped f Done = Done
-  mapped f (One x r) = One (f x) (mapped f r)
-  mapped f (OneOf rs r) = OneOf (mapped_of f rs) (mapped f r)
-  mapped f (Optional rs r) = Optional (mapped_of f rs) (mapped f r)
-
-  -- the choice with other single things in the same places
-  pub mapped_of : {X Y : Type 0} → (X → Y) → Rows X → Rows Y
-  mapped_of f None' = None'
-  mapped_of f (Or r rs) = Or (mapped f r) (mapped_of f rs)
 
 -- how large the largest variant of a row is, by the sizes of single things
 abbrev mutual
@@ -48,38 +34,49 @@ pub record Keys : Type 0 where
   pub lex : ℕ
   pub gloss : ℕ
 
--- the word, or this one where there is none
-abbrev pub word_or : {W : Type 0} → W → Option W → W
-word_or w None = w
-word_or w (Some v) = v
-
 module _ {W : Type 0} (number : W → ℕ) where
-  -- a symbol of a rule, by its number
-  abbrev pub symbol_of : SymbolText W → model.Symbol
-  symbol_of x = record { symbol = number x.symbol; category = number x.category }
+  -- ---- rules, whose constituents have slots: the mother the first, and then those of the right side
 
-  -- a path of a rule; one that names no constituent begins at the mother
-  abbrev pub path_of : W → PathText W → model.WrittenPath
-  path_of mother p = record { head = number (word_or mother p.head); path = map number p.attributes }
+  -- the slot of the first constituent whose symbol has this number; none where the variant has no such constituent
+  abbrev pub slot_of : List (SymbolText W) → ℕ → Option ℕ
+  slot_of [] s = None
+  slot_of (x ∷ xs) s = cond (nat_eq (number x.symbol) s) (Some 0) (option_map (λ n. suc n) (slot_of xs s))
 
-  -- the right side of an equation of a rule
-  abbrev pub term_of : W → TermText W → model.WrittenTerm
-  term_of mother (AtomText a) = model.AtomText (number a)
-  term_of mother (OfPath p) = model.PathText (path_of mother p)
+  -- the slot at which a path begins: that of its constituent, or the mother's where it names none
+  abbrev pub head_slot : List (SymbolText W) → Option W → Option ℕ
+  head_slot xs None = Some 0
+  head_slot xs (Some w) = slot_of xs (number w)
 
-  -- an equation of a rule
-  abbrev pub equation_of : W → EquationText W → model.WrittenEquation
-  equation_of mother e = record { left = path_of mother e.left; right = term_of mother e.right }
+  -- the path from its slot; none where the variant leaves its constituent out
+  abbrev pub placed_path : List (SymbolText W) → PathText W → Option SlotPath
+  placed_path xs p = option_map (λ n. record { slot = n; path = map number p.attributes }) (head_slot xs p.head)
 
-  -- a rule, by the numbers of its words
-  abbrev pub rule_of : RuleText W → model.WrittenRule
-  rule_of r = record {
-    line = r.line;
-    name = map number r.name;
-    mother = symbol_of r.mother;
-    right = mapped symbol_of r.right;
-    equations = mapped (equation_of r.mother.symbol) r.equations;
+  -- the right side at the variant's slots; none where it names a symbol that the variant leaves out
+  abbrev pub placed_term : List (SymbolText W) → TermText W → Option Term
+  placed_term xs (AtomText a) = Some (AtomOf (number a))
+  placed_term xs (OfPath p) = option_map (λ q. PathOf q) (placed_path xs p)
+
+  -- the equation at the variant's slots; none where it names a symbol that the variant leaves out
+  abbrev pub placed_equation : List (SymbolText W) → EquationText W → Option Equation
+  placed_equation xs e = option_and_then (λ l. option_map (λ r. record { left = l; right = r }) (placed_term xs e.right)) (placed_path xs e.left)
+
+  -- that each constituent has its category, the slots numbered from n
+  abbrev pub category_equations : ℕ → ℕ → List (SymbolText W) → List Equation
+  category_equations cat n [] = []
+  category_equations cat n (x ∷ xs) = record { left = record { slot = n; path = cat ∷ [] }; right = AtomOf (number x.category) } ∷ category_equations cat (suc n) xs
+
+  -- the variant with these constituents: the equations of their categories, and of the written ones those that name no symbol left out
+  abbrev pub rule_variant_of : ℕ → List (SymbolText W) → List (EquationText W) → RuleVariant
+  rule_variant_of cat xs es = record {
+    categories = map (λ x. number x.category) xs;
+    equations = category_equations cat 0 xs ++ filter_map (placed_equation xs) es;
   }
+
+  -- the variants of a rule, those of the right side changing slowest
+  abbrev pub rule_variants : ℕ → RuleText W → List RuleVariant
+  rule_variants cat r = flat_map (λ xs. map (rule_variant_of cat (r.mother ∷ xs)) (variants single r.equations)) (variants single r.right)
+
+  -- ---- entries
 
   -- a path of an entry's features: it begins at the entry's one value, slot 0
   abbrev pub feature_path : PathText W → SlotPath
@@ -120,7 +117,7 @@ module _ {W : Type 0} (number : W → ℕ) where
     -- the variants of all rules and entries
     abbrev pub build : Grammar W → List (EntryOf W) → Rules
     build g l = record {
-      rules = map (λ r. rule_variants keys.cat (rule_of r)) g.rules;
+      rules = map (rule_variants keys.cat) g.rules;
       entries = map entry_variants l;
       start = number g.start;
       restrictor = map (map number) g.restrictor;

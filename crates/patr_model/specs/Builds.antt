@@ -10,11 +10,11 @@ use Rattle.patr_model.specs.Plain.{IsPlain, bare, stated, IsFact, slot_category,
 use Rattle.patr_model.specs.Variants.{AreWithin}
 use Rattle.patr_model.specs.Laws.{StatesCategories}
 use Rattle.patr_model.specs.Session.{Numbering}
-use Rattle.patr_model.specs.Productions.{Grammar}
+use Rattle.patr_model.specs.Productions.{RuleText, Grammar}
 use Rattle.patr_model.specs.LexiconText.{EntryOf}
-use Rattle.patr_model.specs.Renaming.{Each, SameGrounds}
-use Rattle.patr_model.specs.Agreeing.{SameGrammar, SameEntryText}
-use Rattle.patr_model.specs.Build.{Keys, build, build_fault, grounds}
+use Rattle.patr_model.specs.Renaming.{Each, AreOne, SameRow, SameRule, SameGrounds}
+use Rattle.patr_model.specs.Agreeing.{SameSymbolText, SameEquationText, SameGrammar, SameEntryText}
+use Rattle.patr_model.specs.Build.{Keys, rule_variants, build, build_fault, grounds}
 
 -- The variants, and what is too large, do not depend on what stands for the words: texts and numbers that belong together give the same.
 abbrev pub BuildsIgnoreWords : Type 0
@@ -25,6 +25,12 @@ BuildsIgnoreWords = (number : List ℕ → ℕ) (other : ℕ → ℕ) (keys : Ke
 -- what a session stands on is under each numbering the same
 abbrev pub BuildsIgnoreNumbers : Type 0
 BuildsIgnoreNumbers = (N X : Numbering) (g : Grammar (List ℕ)) (l : List (EntryOf (List ℕ))) → SameGrounds (grounds N g l) (grounds X g l)
+
+-- the variants of one rule, whose words are numbers of the same texts under two numberings, are one for one the same
+abbrev pub VariantsIgnoreNumbers : Type 0
+VariantsIgnoreNumbers = (N X : Numbering) (cat cat' : ℕ) (r s : RuleText ℕ) → AreOne N X cat cat'
+    → SameSymbolText (AreOne N X) r.mother s.mother → SameRow (SameSymbolText (AreOne N X)) r.right s.right → SameRow (SameEquationText (AreOne N X)) r.equations s.equations
+    → Each (SameRule N X) (rule_variants (λ w. w) cat r) (rule_variants (λ w. w) cat' s)
 
 -- ---- what the variants of a build state
 

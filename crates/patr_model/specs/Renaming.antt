@@ -6,7 +6,7 @@ use Rattle.std.specs.Prelude.{◌≡◌, ℕ, List, [], ◌∷◌, Bool, Option,
 use Rattle.patr_model.specs.Structure.{Value, Atom, Node, Arc, Structure}
 use Rattle.patr_model.specs.Equation.{SlotPath, Term, AtomOf, PathOf, Equation}
 use Rattle.patr_model.specs.Derivation.{Rules, RuleVariant, EntryVariant}
-use Rattle.patr_model.specs.Grammar.{Row, Rows, Done, One, OneOf, Optional, None', Or, Symbol, WrittenPath, WrittenTerm, AtomText, PathText, WrittenEquation, WrittenRule, rule_variants}
+use Rattle.patr_model.specs.Grammar.{Row, Rows, Done, One, OneOf, Optional, None', Or}
 use Rattle.patr_model.specs.Solved.{solved}
 use Rattle.patr_model.specs.Session.{Numbering, Grounds, State, Judge, LineForms, IsSentenceReply, IsLineReply, Replied}
 use Rattle.patr_model.specs.Run.{Ending, Notations, IsOut}
@@ -99,36 +99,6 @@ abbrev mutual
   SameRows' R (Or x xs) (Or y ys) = SameRow R x y × SameRows' R xs ys
   SameRows' R _ _ = ⊥
 
--- rules as they are written
-module _ (N N' : Numbering) where
-  -- the same symbol, of the same category
-  pub record SameSymbol (x y : Symbol) : Type 0 where
-    pub symbol : AreOne N N' x.symbol y.symbol
-    pub category : AreOne N N' x.category y.category
-
-  -- the same path as written: from one symbol, along the same attributes
-  pub record SameWrittenPath (p q : WrittenPath) : Type 0 where
-    pub head : AreOne N N' p.head q.head
-    pub path : Each (AreOne N N') p.path q.path
-
-  -- the same right side of a written equation: one atom, or one path
-  abbrev pub SameWrittenTerm : WrittenTerm → WrittenTerm → Type 0
-  SameWrittenTerm (AtomText c) (AtomText d) = AreOne N N' c d
-  SameWrittenTerm (AtomText c) (PathText q) = ⊥
-  SameWrittenTerm (PathText p) (AtomText d) = ⊥
-  SameWrittenTerm (PathText p) (PathText q) = SameWrittenPath p q
-
-  -- the same equation as written
-  pub record SameWrittenEquation (e f : WrittenEquation) : Type 0 where
-    pub left : SameWrittenPath e.left f.left
-    pub right : SameWrittenTerm e.right f.right
-
-  -- the same rule as written, apart from its line and its name
-  pub record SameWrittenRule (r s : WrittenRule) : Type 0 where
-    pub mother : SameSymbol r.mother s.mother
-    pub right : SameRow SameSymbol r.right s.right
-    pub equations : SameRow SameWrittenEquation r.equations s.equations
-
 -- what a session stands on, with another numbering
 pub record SameGrounds (s s' : Grounds) : Type 0 where
   pub rules : SameRules s.names s'.names s.rules s'.rules
@@ -155,7 +125,3 @@ IgnoresNumbers notation = (N N' : Numbering) (words : List (List ℕ)) (files : 
 -- so it is at each stage
 abbrev pub RunsIgnoreNumbers : Type 0
 RunsIgnoreNumbers = (stage : Stage) → IgnoresNumbers (notations stage lines_with_commands)
-
--- the variants of one rule, read under two numberings, are one for one the same
-abbrev pub VariantsIgnoreNumbers : Type 0
-VariantsIgnoreNumbers = (N N' : Numbering) (cat cat' : ℕ) (r r' : WrittenRule) → AreOne N N' cat cat' → SameWrittenRule N N' r r' → Each (SameRule N N') (rule_variants cat r) (rule_variants cat' r')

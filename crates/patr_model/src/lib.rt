@@ -15,7 +15,8 @@ ghost use Rattle.patr_model.specs.Chains.{ChainSteps};
 ghost use Rattle.patr_model.specs.Longer.{LongerKeeps};
 ghost use Rattle.patr_model.specs.Openings.{OpeningsAreOne, SessionRepliesBegin, TablesAreNumbered};
 ghost use Rattle.patr_model.specs.Agreeing.{ReadingIgnoresNumbers};
-ghost use Rattle.patr_model.specs.Renaming.{RepliesIgnoreNumbers, RunsIgnoreNumbers, VariantsIgnoreNumbers};
+ghost use Rattle.patr_model.specs.Renaming.{RepliesIgnoreNumbers, RunsIgnoreNumbers};
+ghost use Rattle.patr_model.specs.Builds.{VariantsIgnoreNumbers};
 
 pub use builds::{
     builds_ignore_numbers, builds_ignore_words, builds_state_categories, following_is_category,

@@ -44,6 +44,10 @@ module _ (s : Stored) where
   pub has_categories : HasCategories (rules_of s) keys.cat
   has_categories = (are_built number keys (grammar_of s.grammar) (entries_of s.lexicon)).categories
 
+  -- prediction compares categories alone
+  pub by_category : (rules_of s).restrictor ≡ (keys.cat ∷ []) ∷ []
+  by_category = ap (map (map number)) s.grammar.default_restrictor
+
   -- the category of the next daughter stands at `cat` of the next slot
   pub next_there : (t : Derivation) → IsPartial (rules_of s) t → (A : Structure) (v : Value) → IsLeastValue (rules_of s) t A v
       → (c : ℕ) × (next_of (rules_of s) t ≡ Some c) × (at A v (suc (derivation.seen t) ∷ keys.cat ∷ []) ≡ Some (Atom c))
@@ -215,7 +219,7 @@ module _ (s : Stored) (stored : IsStored s) (ws : List ℕ) (v : Shown) (es : Li
   follow : (a : Derivation) (r k i : ℕ) → IsIn (derivations es) a → IsPartial g a → end a ≡ i → IsSolvable g (Begin r k i) → (judge s).MayFollow a (Begin r k i) → IsIn (derivations es) (Begin r k i)
   follow a r k i here part ends sol may =
       let variant = sol.2.solves in
-      let same = plainly g keys.cat (has_categories s) refl ws a r k i part (variant.0, variant.1) may in
+      let same = plainly g keys.cat (has_categories s) (by_category s) ws a r k i part (variant.0, variant.1) may in
       let t = numbered (derivations es) a here in
       let place : t.0 < length es = (let b = t.1 in omega (arith, b, from_length [] es)) in
       let marked : M same.0 (end a) = subst (λ x. M same.0 (end x)) t.2 (p.followed t.0 same.0 place (subst (λ x. next_of g x ≡ Some same.0) (sym t.2) same.1)) in
@@ -315,7 +319,7 @@ module _ (s : Stored) (stored : IsStored s) where
         let mother : slot_category g (Begin b.item.rule b.item.variant i) 0 ≡ Some c = ap (option_and_then (λ (w : RuleVariant). slice_get w.categories 0)) item.is ∙ (item.mother ∙ ap (λ n. Some n) b.mother) in
         subst (λ x. InChart (judge s) g ws x) (sym b.is)
         (InChart.predicted (tree es seen) b.item.rule b.item.variant i t_in part refl (begun_solvable s stored b.item item i)
-        (follows g keys.cat (has_categories s) refl ws (tree es seen) b.item.rule b.item.variant i part (item.variant, item.is) v.structure (value_of v e.root) (sound seen e at_e).value s.shown.structure least.0 least.1 (c, q, mother)))
+        (follows g keys.cat (has_categories s) (by_category s) ws (tree es seen) b.item.rule b.item.variant i part (item.variant, item.is) v.structure (value_of v e.root) (sound seen e at_e).value s.shown.structure least.0 least.1 (c, q, mother)))
 
     pub followed_new : AreNew (judge s) (rules_of s) ws es (begun_by marks s (next_of (rules_of s) (tree es seen)) (end (tree es seen)))
     followed_new = go (next_of (rules_of s) (tree es seen)) refl

@@ -12,11 +12,10 @@ ghost use Rattle.patr_model.specs.Solved.{solved};
 ghost use Rattle.patr_parse.specs.Analyses.{AreAll, HasKey, RootsAreHeld, edge_of, has_category, is_whole};
 ghost use Rattle.patr_parse.specs.Found.{AreSound};
 
-use crate::category::CAT;
 use patr_arena::{Value, View, resolve_path};
 use patr_chart::{Chart, Edge, KeyItem};
 use patr_library::Library;
-use patr_text::{Id, Memory};
+use patr_text::{Id, Memory, Symbols};
 use std::alloc::Global;
 
 // An analysis: its key, and the number of its edge.
@@ -31,7 +30,7 @@ fn has_category(view: &View<'_>, root: Value, category: Id) -> bool
     requires { ValueIsHeld (view_of view.now) root }
     ensures { result ≡ has_category (view_of view.now) root category.0 }
 {
-    match resolve_path(view, root, &[CAT]) {
+    match resolve_path(view, root, &[Symbols::CAT]) {
         Some(Value::Atom(atom)) => atom == category,
         _ => false,
     }

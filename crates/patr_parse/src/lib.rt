@@ -2,7 +2,6 @@
 #![tactic(auto)]
 
 mod analyses;
-mod category;
 mod closing;
 mod join;
 mod parse;

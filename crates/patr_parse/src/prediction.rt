@@ -15,12 +15,11 @@ ghost use Rattle.patr_parse.specs.Standing.{Stands};
 ghost use Rattle.patr_parse.specs.Begun.{begun, leaf, leaves_at, leaves_from, begun_at, begun_unless, begun_by, next_of, is_marked, HasMark, HasMarkOf, IsAloneEdge, ArePushed};
 ghost use Rattle.patr_parse.specs.Predicting.{IsPrediction};
 
-use crate::category::CAT;
 use crate::join::{next_kind, root_for};
 use patr_arena::{Memory, SentenceArena, Value, resolve_path};
 use patr_chart::{Chart, Edge, EdgeKind};
 use patr_library::Library;
-use patr_text::Id;
+use patr_text::{Id, Symbols};
 use std::alloc::{AllocError, Global};
 use std::collections::HashSet;
 
@@ -217,7 +216,7 @@ fn next_category(library: &Library, arena: &SentenceArena<'_>, chart: &Chart, k:
         return None;
     }
     let (_, slot) = next_kind(edge.kind);
-    let Some(found) = resolve_path(arena, edge.root, &[slot, CAT]) else {
+    let Some(found) = resolve_path(arena, edge.root, &[slot, Symbols::CAT]) else {
         unreachable!()
     };
     let Value::Atom(category) = found else {

@@ -6,12 +6,11 @@ use Rattle.std.proofs.lemmas.Option.{slice_get-map}
 use Rattle.patr_lists.proofs.Alls.{all_at, all_append, all_map, all_flat}
 use Rattle.patr_model.specs.Equation.{Term, PathOf, Equation}
 use Rattle.patr_model.specs.Derivation.{RuleVariant, EntryVariant, entry_variant, rule_variant}
-use Rattle.patr_model.specs.Grammar as model
-use Rattle.patr_model.specs.Grammar.{Row, Rows, Done, One, OneOf, Optional, None', Or, products, variants, variants_of, single, Symbol, WrittenEquation, WrittenTerm, category_equations, placed_term, placed_equation, placed_path, slot_of, rule_variant_of, rule_variants}
+use Rattle.patr_model.specs.Grammar.{Row, Rows, Done, One, OneOf, Optional, None', Or, products, variants, variants_of, single}
 use Rattle.patr_model.specs.Plain.{stated}
-use Rattle.patr_model.specs.Productions.{TermText, AtomText, OfPath, EquationText, FeatureText, Equates, Names, RuleText}
+use Rattle.patr_model.specs.Productions.{SymbolText, TermText, AtomText, OfPath, EquationText, FeatureText, Equates, Names, RuleText}
 use Rattle.patr_model.specs.LexiconText.{EntryOf}
-use Rattle.patr_model.specs.Build.{mapped, mapped_of, symbol_of, term_of, equation_of, rule_of, feature_equation, feature_variants, gloss_fact, facts_of, entry_variant_of, entry_variants}
+use Rattle.patr_model.specs.Build.{head_slot, placed_term, placed_equation, category_equations, rule_variant_of, rule_variants, feature_equation, feature_variants, gloss_fact, facts_of, entry_variant_of, entry_variants}
 use Rattle.patr_model.proofs.Maps.{some_inj, and_then_some}
 use Rattle.patr_model.proofs.StatedCategories.{everything, every_rule, every_entry}
 use Rattle.patr_text.specs.declared.symbols.Id.{Id}
@@ -22,18 +21,6 @@ use Rattle.patr_reply.specs.Naming.{AllPass, TermPasses, Passes, AreNamed}
 use Rattle.patr_reply.specs.Held.{AllIn, AllInRows, IsBelow, MayBeBelow, SymbolIsHeld, TermIsHeld, EquationIsHeld, FeatureIsHeld, RuleIsHeld, EntryIsHeld, AreHeldBy}
 
 -- ---- rows
-
-module _ {X Y : Type 0} (P : X → Type 0) (Q : Y → Type 0) (f : X → Y) (each : (x : X) → P x → Q (f x)) where
-  mutual
-    row_mapped : (r : Row X) → AllIn P r → AllIn Q (mapped f r)
-    row_mapped Done h = tt
-    row_mapped (One x r) h = (each x h.0, row_mapped r h.1)
-    row_mapped (OneOf rs r) h = (rows_mapped rs h.0, row_mapped r h.1)
-    row_mapped (Optional rs r) h = (rows_mapped rs h.0, row_mapped r h.1)
-
-    rows_mapped : (rs : Rows X) → AllInRows P rs → AllInRows Q (mapped_of f rs)
-    rows_mapped None' h = tt
-    rows_mapped (Or r rs) h = (row_mapped r h.0, rows_mapped rs h.1)
 
 module _ {A Y : Type 0} (P : Y → Type 0) (Q : A → Type 0) (f : A → List (List Y)) (each : (a : A) → Q a → AllByRecursion (AllByRecursion P) (f a)) where
   products_in : (vs ws : List (List Y)) → AllByRecursion (AllByRecursion P) vs → AllByRecursion (AllByRecursion P) ws → AllByRecursion (AllByRecursion P) (products vs ws)
@@ -64,51 +51,34 @@ module _ (n : ℕ) (known : 38 ≤ n) where
   passes : (c : ℕ) → c < n → test c ≡ true
   passes c h = lt-ltb c n h
 
-  abbrev SymbolPasses : Symbol → Type 0
-  SymbolPasses x = test x.category ≡ true
-
-  abbrev WrittenPasses : WrittenTerm → Type 0
-  WrittenPasses (model.AtomText c) = test c ≡ true
-  WrittenPasses (model.PathText p) = AllPass test p.path
-
-  abbrev EquationPasses : WrittenEquation → Type 0
-  EquationPasses e = AllPass test e.left.path × WrittenPasses e.right
-
   path_passes : (is : List Id) → AllByRecursion (IsBelow n) is → AllPass test (map number is)
   path_passes is h = all_map (λ s. test s ≡ true) number (IsBelow n) (λ i b. passes i.0 b) is h
 
-  written_passes : (mother : Id) (e : EquationText Id) → EquationIsHeld n e → EquationPasses (equation_of number mother e)
-  written_passes mother e h = (path_passes e.left.attributes h.0, go e.right h.1)
-    where
-      go : (t : TermText Id) → TermIsHeld n t → WrittenPasses (term_of number mother t)
-      go (AtomText a) k = passes a.0 k
-      go (OfPath p) k = path_passes p.attributes k
-
-  categories_pass : (k : ℕ) (xs : List Symbol) → AllByRecursion SymbolPasses xs → AllByRecursion (Passes test) (category_equations 33 k xs)
+  categories_pass : (k : ℕ) (xs : List (SymbolText Id)) → AllByRecursion (SymbolIsHeld n) xs → AllByRecursion (Passes test) (category_equations number 33 k xs)
   categories_pass k [] h = tt
-  categories_pass k (x ∷ xs) h = (((passes 33 (omega (arith, known)), tt), h.0), categories_pass (suc k) xs h.1)
+  categories_pass k (x ∷ xs) h = (((passes 33 (omega (arith, known)), tt), passes x.category.0 h.0), categories_pass (suc k) xs h.1)
 
-  module _ (xs : List Symbol) where
-    placed_passes : (e : WrittenEquation) → EquationPasses e → IfSome (placed_equation xs e) (Passes test)
-    placed_passes e h = go (slot_of xs e.left.head) (placed_term xs e.right) (right e.right h.1)
+  module _ (xs : List (SymbolText Id)) where
+    placed_passes : (e : EquationText Id) → EquationIsHeld n e → IfSome (placed_equation number xs e) (Passes test)
+    placed_passes e h = go (head_slot number xs e.left.head) (placed_term number xs e.right) (right e.right h.1)
       where
-        right : (t : WrittenTerm) → WrittenPasses t → IfSome (placed_term xs t) (TermPasses test)
-        right (model.AtomText c) k = k
-        right (model.PathText p) k = here (slot_of xs p.head)
+        right : (t : TermText Id) → TermIsHeld n t → IfSome (placed_term number xs t) (TermPasses test)
+        right (AtomText a) k = passes a.0 k
+        right (OfPath p) k = here (head_slot number xs p.head)
           where
-            here : (o : Option ℕ) → IfSome (option_map (λ q. PathOf q) (option_map (λ (m : ℕ). record { slot = m; path = p.path }) o)) (TermPasses test)
+            here : (o : Option ℕ) → IfSome (option_map (λ q. PathOf q) (option_map (λ (m : ℕ). record { slot = m; path = map number p.attributes }) o)) (TermPasses test)
             here None = tt
-            here (Some m) = k
+            here (Some m) = path_passes p.attributes k
 
         go : (o : Option ℕ) (u : Option Term) → IfSome u (TermPasses test)
-            → IfSome (option_and_then (λ l. option_map (λ r. record { left = l; right = r }) u) (option_map (λ (m : ℕ). record { slot = m; path = e.left.path }) o)) (Passes test)
+            → IfSome (option_and_then (λ l. option_map (λ r. record { left = l; right = r }) u) (option_map (λ (m : ℕ). record { slot = m; path = map number e.left.attributes }) o)) (Passes test)
         go None u k = tt
         go (Some m) None k = tt
-        go (Some m) (Some r) k = (h.0, k)
+        go (Some m) (Some r) k = (path_passes e.left.attributes h.0, k)
 
-    all_placed : (es : List WrittenEquation) → AllByRecursion EquationPasses es → AllByRecursion (Passes test) (filter_map (placed_equation xs) es)
+    all_placed : (es : List (EquationText Id)) → AllByRecursion (EquationIsHeld n) es → AllByRecursion (Passes test) (filter_map (placed_equation number xs) es)
     all_placed [] h = tt
-    all_placed (e ∷ es) h = go (placed_equation xs e) (placed_passes e h.0) (filter_map (placed_equation xs) es) (all_placed es h.1)
+    all_placed (e ∷ es) h = go (placed_equation number xs e) (placed_passes e h.0) (filter_map (placed_equation number xs) es) (all_placed es h.1)
       where
         go : (o : Option Equation) → IfSome o (Passes test) → (fs : List Equation) → AllByRecursion (Passes test) fs → AllByRecursion (Passes test) (cons_option o fs)
         go None p fs k = k
@@ -118,21 +88,18 @@ module _ (n : ℕ) (known : 38 ≤ n) where
   abbrev RulePasses : RuleVariant → Type 0
   RulePasses rule = AllByRecursion (Passes test) rule.equations × AllByRecursion (λ c. c < n) rule.categories
 
-  variant_passes : (xs : List Symbol) (es : List WrittenEquation) → AllByRecursion SymbolPasses xs → AllByRecursion EquationPasses es → RulePasses (rule_variant_of 33 xs es)
+  variant_passes : (xs : List (SymbolText Id)) (es : List (EquationText Id)) → AllByRecursion (SymbolIsHeld n) xs → AllByRecursion (EquationIsHeld n) es → RulePasses (rule_variant_of number 33 xs es)
   variant_passes xs es h k = (
-    all_append (Passes test) (category_equations 33 0 xs) (filter_map (placed_equation xs) es) (categories_pass 0 xs h) (all_placed xs es k),
-    all_map (λ c. c < n) (λ (x : Symbol). x.category) SymbolPasses (λ x p. ltb-true x.category n p) xs h,
+    all_append (Passes test) (category_equations number 33 0 xs) (filter_map (placed_equation number xs) es) (categories_pass 0 xs h) (all_placed xs es k),
+    all_map (λ c. c < n) (λ (x : SymbolText Id). x.category.0) (SymbolIsHeld n) (λ x p. p) xs h,
   )
 
-  rule_passes : (r : RuleText Id) → RuleIsHeld n r → AllByRecursion RulePasses (rule_variants 33 (rule_of number r))
+  rule_passes : (r : RuleText Id) → RuleIsHeld n r → AllByRecursion RulePasses (rule_variants number 33 r)
   rule_passes r h =
-      let w = rule_of number r in
-      let right = row_mapped (SymbolIsHeld n) SymbolPasses (symbol_of number) (λ x b. passes x.category.0 b) r.right h.right in
-      let equations = row_mapped (EquationIsHeld n) EquationPasses (equation_of number r.mother.symbol) (written_passes r.mother.symbol) r.equations h.equations in
-      all_flat RulePasses (λ xs. map (rule_variant_of 33 (w.mother ∷ xs)) (variants single w.equations)) (AllByRecursion SymbolPasses)
-      (λ xs a. all_map RulePasses (rule_variant_of 33 (w.mother ∷ xs)) (AllByRecursion EquationPasses) (λ es b. variant_passes (w.mother ∷ xs) es (passes r.mother.category.0 h.mother, a) b)
-      (variants single w.equations) (variants_in EquationPasses EquationPasses single (λ e q. ((q, tt), tt)) w.equations equations))
-      (variants single w.right) (variants_in SymbolPasses SymbolPasses single (λ x q. ((q, tt), tt)) w.right right)
+      all_flat RulePasses (λ xs. map (rule_variant_of number 33 (r.mother ∷ xs)) (variants single r.equations)) (AllByRecursion (SymbolIsHeld n))
+      (λ xs a. all_map RulePasses (rule_variant_of number 33 (r.mother ∷ xs)) (AllByRecursion (EquationIsHeld n)) (λ es b. variant_passes (r.mother ∷ xs) es (h.mother, a) b)
+      (variants single r.equations) (variants_in (EquationIsHeld n) (EquationIsHeld n) single (λ e q. ((q, tt), tt)) r.equations h.equations))
+      (variants single r.right) (variants_in (SymbolIsHeld n) (SymbolIsHeld n) single (λ x q. ((q, tt), tt)) r.right h.right)
 
   stated_pass : (fs : List (ℕ × ℕ)) → AllByRecursion (λ (f : ℕ × ℕ). (test f.0 ≡ true) × (test f.1 ≡ true)) fs → AllByRecursion (Passes test) (stated fs)
   stated_pass [] h = tt

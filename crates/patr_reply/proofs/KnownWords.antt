@@ -14,7 +14,8 @@ use Rattle.patr_model.specs.Session as session
 use Rattle.patr_model.specs.Session.{Numbering, AgreesWith, ListsAll, IsSentenceReply, line, too_long, unknown, too_many, analyses}
 use Rattle.patr_text.specs.Texts.{first_texts, Extends}
 use Rattle.patr_grammar.specs.declared.grammar.Element.{Element}
-use Rattle.patr_grammar.specs.Reading.{element_seen, features_seen}
+use Rattle.patr_grammar.specs.declared.grammar.Element.TheVariants.{Equation as Written}
+use Rattle.patr_grammar.specs.Reading.{equation_seen, features_seen}
 use Rattle.patr_lexicon.specs.declared.lexicon.Entry.{Entry}
 use Rattle.patr_lexicon.specs.Seen.{entry_seen}
 use Rattle.patr_library.specs.Stored.{Stored, keys, number, entries_of, rules_of}
@@ -28,10 +29,10 @@ use Rattle.patr_reply.proofs.Listing.{cat_is}
 -- features have a variant
 some_variant : (es : List Element) → (fs : List Equation) × (slice_get (variants (feature_variants number) (features_seen es)) 0 ≡ Some fs)
 some_variant [] = ([], refl)
-some_variant (e ∷ es) =
+some_variant (Written e ∷ es) =
     let rest = some_variant es in
     let ws = variants (feature_variants number) (features_seen es) in
-    let f : List Equation → List Equation = λ w. (feature_equation number (element_seen e) ∷ []) ++ w in
+    let f : List Equation → List Equation = λ w. (feature_equation number (equation_seen e) ∷ []) ++ w in
     (f rest.0, ap (λ (l : List (List Equation)). slice_get l 0) (append-nil (map f ws)) ∙ (slice_get-map f ws 0 ∙ ap (option_map f) rest.1))
 
 -- so an entry has one

@@ -64,7 +64,7 @@ module _ (table : List (List ℕ)) (g : Grammar) (t : production.Grammar (List �
   grounds_are N first agrees s built =
       let rules : rules_of s.library ≡ build N.number (keys_of N) t ts =
       ap (λ x. built_rules x s.library.lexicon) built.grammar ∙ ap (built_rules g) built.lexicon ∙ rules_are N first agrees in
-      let order : [] ≡ map N.number t.order = ap (map N.number) (sym (none_alike (IsText table) t.order grammar.order)) in
+      let order : [] ≡ map N.number t.order = ap (map N.number) (sym (none_alike (IsText table) t.order (subst (λ o. Each (IsText table) o t.order) g.no_order grammar.order))) in
       λ i. record { names = N; rules = rules i; order = order i }
 
 -- a library of what was read by a table is held by it
