@@ -109,7 +109,7 @@ module _ (N : Numbering) where
     same = same_number;
   }
 
-each_itself : {X : Type 0} (xs : List X) → Each (λ x y. x ≡ y) xs xs
+pub each_itself : {X : Type 0} (xs : List X) → Each (λ x y. x ≡ y) xs xs
 each_itself [] = tt
 each_itself (x ∷ xs) = (refl, each_itself xs)
 

@@ -1,5 +1,6 @@
 -- What a build makes depends neither on what stands for the words nor on how they are numbered.
 use Rattle.std.proofs.Common.{◌≡◌, ℕ, suc, ◌+◌, ◌*◌, List, [], ◌∷◌, ◌++◌, map, filter_map, max, length, nat_eq, cond, codes, Option, Some, None, option_map, option_and_then, refl, sym, ap, subst}
+use Rattle.patr_model.proofs.Agreeing.{each_itself}
 use Rattle.patr_model.specs.Equation.{AtomOf, PathOf}
 use Rattle.patr_model.specs.Grammar.{Row, Rows, Done, One, OneOf, Optional, None', Or, products, variants, variants_of, single}
 use Rattle.patr_model.specs.Plain.{stated}
@@ -196,15 +197,11 @@ mutual
   choice_itself R h None' = tt
   choice_itself R h (Or r rs) = (row_itself R h r, choice_itself R h rs)
 
-words_itself : {W : Type 0} (ws : List W) → Each (λ a b. a ≡ b) ws ws
-words_itself [] = tt
-words_itself (w ∷ ws) = (refl, words_itself ws)
-
 symbol_itself : {W : Type 0} (x : SymbolText W) → SameSymbolText (λ a b. a ≡ b) x x
 symbol_itself x = record { symbol = refl; category = refl }
 
 path_itself : {W : Type 0} (p : PathText W) → SamePathText (λ a b. a ≡ b) p p
-path_itself p = record { head = equal_option p.head p.head refl; attributes = words_itself p.attributes }
+path_itself p = record { head = equal_option p.head p.head refl; attributes = each_itself p.attributes }
 
 equation_itself : {W : Type 0} (e : EquationText W) → SameEquationText (λ a b. a ≡ b) e e
 equation_itself {W = W} e = record { left = path_itself e.left; right = go e.right }

@@ -1,6 +1,7 @@
 use Rattle.std.proofs.Common.{◌≡◌, ◌+◌, ◌++◌, List, [], ◌∷◌, ℕ, length, map, Vec, Global, arith, ap, sym, subst, ◌∙◌, append_assoc, append-nil, length-append, true, cond}
 use Rattle.std.proofs.lemmas.List.{length-map}
 use Rattle.std.specs.Vec.Iter.{into_iter_items, into_iter_len}
+use Rattle.patr_lists.specs.Tables.{numbers}
 use Rattle.atomic_table.specs.Seated.{TableId}
 use Rattle.patr_claims.specs.Tasks.{times_in, NoneTwice}
 use Rattle.patr_claims.specs.declared.counter.CounterSeat.{CounterSeat}
@@ -8,26 +9,23 @@ use Rattle.patr_claims.specs.declared.counting.DeskSize.{DeskSize}
 use Rattle.patr_claims.proofs.Seats.{nothing_left, head_is, tail_are}
 use Rattle.patr_claims.proofs.counter.CounterDeskDesk.close.Goals as goal
 
-abbrev lists_of : List (Vec ℕ Global) → List (List ℕ)
-lists_of lists = map (λ list. list.items) lists
-
 abbrev taken_of : List CounterSeat → List (List ℕ)
 taken_of seats = map (λ seat. seat.taken.items) seats
 
 abbrev Here : TableId → ℕ → CounterSeat → Type 0
 Here table tasks seat = (seat.pass.table_id ≡ table) × (seat.tasks ≡ tasks)
 
-one_more : (lists : List (Vec ℕ Global)) (new : List (Vec ℕ Global)) (seats rest all : List CounterSeat) (seat : CounterSeat) → lists_of new ≡ lists_of lists ++ seat.taken.items ∷ [] → seats ≡ seat ∷ rest → lists_of lists ++ taken_of seats ≡ taken_of all
-    → (lists_of new ++ taken_of rest ≡ taken_of all) × (length new ≡ length lists + 1)
+one_more : (lists : List (Vec ℕ Global)) (new : List (Vec ℕ Global)) (seats rest all : List CounterSeat) (seat : CounterSeat) → numbers new ≡ numbers lists ++ seat.taken.items ∷ [] → seats ≡ seat ∷ rest → numbers lists ++ taken_of seats ≡ taken_of all
+    → (numbers new ++ taken_of rest ≡ taken_of all) × (length new ≡ length lists + 1)
 one_more lists new seats rest all seat grown steps so_far = (
-  ap (λ l. l ++ taken_of rest) grown ∙ append_assoc (lists_of lists) (seat.taken.items ∷ []) (taken_of rest) ∙ ap (λ s. lists_of lists ++ taken_of s) (sym steps) ∙ so_far,
+  ap (λ l. l ++ taken_of rest) grown ∙ append_assoc (numbers lists) (seat.taken.items ∷ []) (taken_of rest) ∙ ap (λ s. numbers lists ++ taken_of s) (sym steps) ∙ so_far,
   simp (length-map, length-append) at (ap length grown),
 )
 
-whole : (lists : List (Vec ℕ Global)) (rest all : List CounterSeat) → lists_of lists ++ taken_of rest ≡ taken_of all → length lists ≡ length all → lists_of lists ≡ taken_of all
+whole : (lists : List (Vec ℕ Global)) (rest all : List CounterSeat) → numbers lists ++ taken_of rest ≡ taken_of all → length lists ≡ length all → numbers lists ≡ taken_of all
 whole lists rest all is long =
     let sizes : length lists + length rest ≡ length all = simp (length-append, length-map) at (ap length is) in
-    sym (append-nil (lists_of lists)) ∙ ap (λ r. lists_of lists ++ taken_of r) (sym (nothing_left rest (omega arith))) ∙ is
+    sym (append-nil (numbers lists)) ∙ ap (λ r. numbers lists ++ taken_of r) (sym (nothing_left rest (omega arith))) ∙ is
 
 pub loop-seat-init : goal.loop-seat-init
 loop-seat-init c =
