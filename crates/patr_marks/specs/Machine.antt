@@ -4,7 +4,7 @@
 --     IsMerge, IsBind, IsSkip, IsClash   what becomes of a state as one pair is worked off
 --     IsMarked, IsWithin, IsForced       what holds at each moment
 -- D is one structure that holds both sides, the right one behind the left one.
-use Rattle.std.specs.Prelude.{◌≡◌, ◌≢◌, ℕ, suc, ◌+◌, ◌⊎◌, Bool, false, cond, ◌||◌, List, [], ◌∷◌, ◌++◌, length, Option, Some, None, nat_eq}
+use Rattle.std.specs.Prelude.{◌≡◌, ◌≢◌, ℕ, zero, suc, ◌+◌, ◌⊎◌, Bool, false, cond, ◌||◌, List, [], ◌∷◌, ◌++◌, length, Option, Some, None, nat_eq}
 use Rattle.patr_model.specs.Structure.{Value, Atom, Node, Arcs, Structure, along, arcs_of}
 
 -- a forward: the place that it stands at, and where it leads
@@ -214,3 +214,8 @@ weight D s k = cond (is_forwarded s.log k) 0 (degree (arcs_at D s k))
 -- the number of own arcs of a place that was not forwarded
 abbrev pub left_over : Structure → State → ℕ → ℕ
 left_over D s k = cond (is_forwarded s.log k) 0 (length (own D k))
+
+-- so many of these arcs lead from the place k to the place j
+abbrev pub Reaches : (ℕ → Arcs) → ℕ → ℕ → ℕ → Type 0
+Reaches f k zero j = k ≡ j
+Reaches f k (suc n) j = (i a : ℕ) × Has (f k) a (Node i) × Reaches f i n j

@@ -3,18 +3,17 @@ use Rattle.std.proofs.Common.{◌≡◌, ℕ, zero, suc, ◌+◌, ◌<◌, ◌�
 use Rattle.std.proofs.lemmas.List.{length-map, length-replicate}
 use Rattle.patr_model.specs.Structure.{Value, Node, Arc, Arcs, Structure, IsStructure, IsValue, at}
 use Rattle.patr_model.specs.Subsumption.{TakesBoth}
-use Rattle.patr_model.specs.Settled.{SideNode, Left, Right, IsSideNode}
-use Rattle.patr_model.specs.Settled as named
+use Rattle.patr_model.specs.Settled.{IsSideNode}
 use Rattle.patr_marks.specs.Machine.{Pair, State, Has, IsIn, NoRepeats, ends, own, total, weight, degree, lookup}
-use Rattle.patr_marks.specs.Named.{IsAtSides, named_marks, side_of}
+use Rattle.patr_marks.specs.Named.{side_of}
 use Rattle.patr_marks.specs.Run.{IsRun, first_pair}
-use Rattle.patr_marks.specs.Settled.{Marks}
+use Rattle.patr_marks.specs.Settled.{IsSettled, IsTidy, Marks}
 use Rattle.patr_marks.specs.Sides.{IsSide, shift, shifted, sides}
 use Rattle.patr_marks.specs.Walk.{ReachedIn}
 use Rattle.patr_marks.proofs.Bounds.{start_room}
-use Rattle.patr_marks.proofs.Named.{left_within, names_settle, reached_below, side_left, side_right, side_to}
+use Rattle.patr_marks.proofs.Named.{left_within, reached_below, side_left, side_right, side_to}
 use Rattle.patr_marks.proofs.Room.{total_same}
-use Rattle.patr_marks.proofs.Settles.{lookup_within, settles, tidies}
+use Rattle.patr_marks.proofs.Settles.{settles, tidies}
 use Rattle.patr_marks.proofs.Sides.{below_or_behind, own_left, own_right}
 use Rattle.patr_marks.proofs.Unifier.{cycle_ends, reached_side, root_side, run_starts}
 use Rattle.patr_arena.specs.Shown.{Shown, IsShown, ValueIsHeld, value_of}
@@ -289,26 +288,21 @@ module _ (v : Shown) (s : IsShown v) (w t : Contents) (l : ℕ) (r target : Valu
   same : (let m : Marks = record { forward = lookup i.log; added = added_of v w } in m) ≡ marks_by v t
   same = marks_same (lookup i.log) (forward_of v t) (added_of v w) (added_of v t) (λ k. sym (i.has_log.table k) ∙ sym (still_forward v w t off.still k)) (λ k. sym (still_added v w t off.still k))
 
-  marks_settled : named.IsSettled v.structure (Node l) p v.structure r (named_marks (length v.structure) (marks_by v t))
+  marks_settled : (m : IsSettled v.structure l p r (marks_by v t)) × IsTidy v.structure l p r (marks_by v t) m
   marks_settled =
       let pending = ap (pairs_at v) none in
-      let is = settles v.structure l p r target state off.order s.structure hl ht there i.run pending off.ordered off.below inside in
-      let tidy = tidies v.structure l p r target state off.order s.structure hl ht there i.run pending off.ordered off.below inside in
-      subst (λ m. named.IsSettled v.structure (Node l) p v.structure r (named_marks (length v.structure) m)) same (names_settle v.structure l p r (record { forward = lookup i.log; added = added_of v w }) s.structure hl is tidy)
-
-  sides_only : IsAtSides v.structure l r (marks_by v t)
-  sides_only = subst (IsAtSides v.structure l r) same (record {
-    forward = λ k x. lookup_within (IsSide v.structure l r) i.log k x i.run.within.log;
-    added = λ k a x h. (i.run.within.added k a x h).1;
-  })
+      subst (λ m. (n : IsSettled v.structure l p r m) × IsTidy v.structure l p r m n) same (
+        settles v.structure l p r target state off.order s.structure hl ht there i.run pending off.ordered off.below inside,
+        tidies v.structure l p r target state off.order s.structure hl ht there i.run pending off.ordered off.below inside,
+      )
 
   pub settled_for : IsValue v.structure r → HasDecisionRoom v t l r → IsSettledFor v t l p r
   settled_for hr room = record {
     there = (target, there);
     right = hr;
     held = still_held v w t off.still i.held;
-    marks = marks_settled;
-    at_sides = sides_only;
+    marks = marks_settled.0;
+    tidy = marks_settled.1;
     ending = still_ends v w t l (walkable v s w l r target ks c i none) off.still;
     uncopied = λ j. off.still.copied j ∙ i.uncopied j;
     no_pairs = off.no_pairs;

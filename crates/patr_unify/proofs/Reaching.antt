@@ -9,7 +9,6 @@ use Rattle.patr_marks.specs.Settled.{Fits, IsEndNode, IsFinal, IsSettled, IsTidy
 use Rattle.patr_marks.specs.Sides.{IsSide, shift, sides}
 use Rattle.patr_marks.proofs.Copied.{end_facts, one_end}
 use Rattle.patr_marks.proofs.Named.{path_below, root_within, reached_below, side_left, side_right, side_to}
-use Rattle.patr_marks.proofs.Numbers.{numbers_settle}
 use Rattle.patr_marks.proofs.Settles.{follow_final}
 use Rattle.patr_marks.proofs.Sides.{below_or_behind, sides_least}
 use Rattle.patr_marks.proofs.Unifier.{side_closed}
@@ -45,10 +44,10 @@ stepped v w l p r all i = record {
 }
 
 abbrev pub numbered : (v : Shown) (s : IsShown v) (w : Contents) (l : ℕ) (p : List ℕ) (r : Value) → l < length v.structure → IsSettledFor v w l p r → IsSettled v.structure l p r (marks_by v w)
-numbered v s w l p r hl i = stepped v w l p r i.ending (numbers_settle v.structure l p r (marks_by v w) s.structure hl i.at_sides i.marks).0
+numbered v s w l p r hl i = stepped v w l p r i.ending i.marks
 
 pub tidy : (v : Shown) (s : IsShown v) (w : Contents) (l : ℕ) (p : List ℕ) (r : Value) (hl : l < length v.structure) (i : IsSettledFor v w l p r) → IsTidy v.structure l p r (marks_by v w) (numbered v s w l p r hl i)
-tidy v s w l p r hl i = let t = (numbers_settle v.structure l p r (marks_by v w) s.structure hl i.at_sides i.marks).1 in record { own_arcs = t.own_arcs; sides_only = t.sides_only }
+tidy v s w l p r hl i = record { own_arcs = i.tidy.own_arcs; sides_only = i.tidy.sides_only; sides_added = i.tidy.sides_added }
 
 module _ (v : Shown) (s : IsShown v) (w : Contents) (l : ℕ) (p : List ℕ) (r : Value) (hl : l < length v.structure) (set : IsSettledFor v w l p r) where
   abbrev S : Structure
@@ -183,7 +182,7 @@ module _ (v : Shown) (s : IsShown v) (w : Contents) (l : ℕ) (p : List ℕ) (r 
   is_free = record {
     left = λ k h. (let below = reached_below S s.structure l k hl h in ap (λ b. cond b true (stays_free (forward_of v w (k - length S)) (visit_of v w (k - length S)))) (under k (length S) below));
     right = λ k h n. behind_free k ∙ forward_or (forward_of v w k) (visit_of v w k)
-        (λ x e. n (reached_left k (right_below k h) (set.at_sides.forward k x e)))
+        (λ x e. n (reached_left k (right_below k h) (set.tidy.sides_only k x e)))
         (set.unseen k (λ e. n (reached_left k (right_below k h) (reached_is_end e.0 k e.1).0)));
   }
     where
@@ -205,5 +204,5 @@ module _ (v : Shown) (s : IsShown v) (w : Contents) (l : ℕ) (p : List ℕ) (r 
           let e = b.1 in
           omega (arith, low, e)
     ];
-    free_is = λ k h b. behind_free k ∙ taken (forward_of v w k) (visit_of v w k) (λ e. set.left k (subst (Within (IsEndOfLeft v w l)) (follow_final w.pair_room (forward_of v w) (Node k) e) (all_reached k h)));
+    free_is = λ k h g b. behind_free k ∙ taken (forward_of v w k) (visit_of v w k) (λ e. set.left k (subst (Within (IsEndOfLeft v w l)) (follow_final w.pair_room (forward_of v w) (Node k) e) (all_reached k h)));
   }
