@@ -219,17 +219,6 @@ module _ {Z : Type 0} where
           either true e = refl
           either false e = e
 
-  -- the first value waits, and the set is empty
-  pub counting_starts : (v : Shown) (seen : HashSet ℕ Z) (x : its.Value) (ws : List its.Value) → seen.keys ≡ [] → ws ≡ x ∷ [] → IsCounting v seen (value_of v x) ws 0
-  counting_starts v seen x ws empty one = record {
-    list = [];
-    reaching = subst (λ us. IsReaching v.structure (value_of v x) [] (values v us)) (sym one) (reaching_starts v.structure (value_of v x));
-    in_list = λ k e. let none : contains nat_eq seen k ≡ false = ap (λ ks. list_any (nat_eq k) ks) empty in cc;
-    in_set = λ k h. absurd h;
-    nodes_are = sym (ap length empty);
-    arcs_are = refl;
-  }
-
 -- what an insert's answer says of the set before
 pub was_in : (b t : Bool) → b ≡ false → b ≡ not t → t ≡ true
 was_in b true e h = refl

@@ -59,9 +59,6 @@ base_on side.Right n y h = base_shift n y
 abbrev pub HasLed : Shown → Contents → Arcs → Arcs → Type 0
 HasLed v w es rest = (a : ℕ) (x : Value) → Has es a x → Has rest a x ⊎ LeadsAsBefore v w x
 
-pub led_starts : (v : Shown) (w : Contents) (es : Arcs) → HasLed v w es es
-led_starts v w es a x h = inl h
-
 pub led_on : (v : Shown) (w : Contents) (es : Arcs) (e : Arc) (rest : Arcs) → HasLed v w es (e ∷ rest) → LeadsAsBefore v w e.to → HasLed v w es rest
 led_on v w es e rest i h a x n = elim (i a x n) [
   | inl m ↦ elim m [ inl q ↦ inr (subst (LeadsAsBefore v w) q.1 h) | inr r ↦ inl r ]
@@ -105,13 +102,6 @@ covered_off es fs rest e q h = sym (ap (λ b. b && covered rest fs) h) ∙ q
 pub covered_all : (v : Shown) (ls : List Link) (next : Option ℕ) (fs : Arcs) → covered (arcs_at v (after ls next)) fs ≡ covered (arcs_at v ls) fs → ((cell : ℕ) → next ≡ Some cell → ⊥) → true ≡ covered (arcs_at v ls) fs
 covered_all v ls (Some cell) fs e n = absurd (n cell refl)
 covered_all v ls None fs e n = e
-
--- places that are free
-pub free_left : (v : Shown) (w : Contents) (p : Place) (k : ℕ) → p.side ≡ side.Left → k < length v.structure → key v p ≡ behind p.side (length v.structure) k → true ≡ free_of v w (key v p)
-free_left v w p k e h q = sym (ap (λ b. cond b true (stays_free (forward_of v w (key v p - length v.structure)) (visit_of v w (key v p - length v.structure)))) (under (key v p) (length v.structure) (subst (λ j. j < length v.structure) (sym (q ∙ ap (λ s. behind s (length v.structure) k) e)) h)))
-  where
-    under : (k n : ℕ) → k < n → nat_lt k n ≡ true
-    under k n h = grind arith
 
 pub free_right : (v : Shown) (w : Contents) (p : Place) (k : ℕ) → p.side ≡ side.Right → key v p ≡ behind p.side (length v.structure) k → stays_free (forward_of v w k) (visit_of v w k) ≡ free_of v w (key v p)
 free_right v w p k e q =

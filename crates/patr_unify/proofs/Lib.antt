@@ -7,6 +7,7 @@ pub mod Running
 pub mod Outcomes
 pub mod Takes
 pub mod Walks
+pub mod Loops
 pub mod Visits
 pub mod Walked
 pub mod Pauses

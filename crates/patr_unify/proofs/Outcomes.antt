@@ -184,19 +184,6 @@ merge_step v w t log a b A B h m n lA lB e eA eB =
     node : (j k : ℕ) → Node j ≡ Node k → k ≡ j
     node j k q = cc
 
-pub merge_steady : (v : Shown) (w t : Contents) (A B : ℕ) → IsMerged v w t A B → IsSteady v w t
-merge_steady v w t A B m = record {
-  places = m.places;
-  arc_room = m.arc_room;
-  pair_room = m.pair_room;
-  visits = m.visits;
-  visit_room = m.visit_room;
-  copied = m.copied;
-  visit = m.visit;
-  held = m.held;
-  pairs_held = m.pairs_held;
-}
-
 pub same_steady : (v : Shown) (w : Contents) → AreHeld v w → PairsHeld v w.pairs → IsSteady v w w
 same_steady v w h p = record { places = refl; arc_room = refl; pair_room = refl; visits = refl; visit_room = refl; copied = λ j. refl; visit = λ j. refl; held = h; pairs_held = p }
 

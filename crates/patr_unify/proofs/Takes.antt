@@ -15,18 +15,6 @@ use Rattle.patr_unify.specs.Merging.{both, one_pair, one_more, IsGiven, rev_onto
 use Rattle.patr_unify.proofs.Keys.{own_key}
 use Rattle.patr_unify.proofs.Merges.{kept_same, kept_then, pairs_length}
 
-pub taken_starts : (v : Shown) (w : Contents) (A B : ℕ) → AreHeld v w → PairsHeld v w.pairs → IsTaken v w w A B (own (sides v.structure) A)
-taken_starts v w A B h p = record {
-  kept = kept_same w;
-  pairs = refl;
-  added = refl;
-  finds = λ a e. refl;
-  others = λ k n. refl;
-  arcs = omega arith;
-  held = h;
-  pairs_held = p;
-}
-
 -- what has no arc of an attribute has none in front of others
 none_has : (es : Arcs) (a : ℕ) → along es a ≡ None → has_attribute es a ≡ false
 none_has [] a h = refl

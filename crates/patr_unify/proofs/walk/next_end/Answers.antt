@@ -3,7 +3,7 @@ use Rattle.patr_scratch.specs.Contents.{first_cell, marks}
 use Rattle.patr_unify.specs.Merging.{both}
 use Rattle.patr_unify.specs.Reading.{key}
 use Rattle.patr_unify.specs.Walking.{IsPassed}
-use Rattle.patr_unify.proofs.Walks.{first_link}
+use Rattle.patr_unify.proofs.Loops.{first_link}
 use Rattle.patr_unify.proofs.walk.next_end.Goals as goal
 
 pub other_added_end-requires-clause-start : goal.other_added_end-requires-clause-start
