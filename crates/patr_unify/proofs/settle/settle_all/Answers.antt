@@ -5,50 +5,22 @@ use Rattle.patr_unify.specs.Stepping.{IsRunning, Outcome, weight_of, upto}
 use Rattle.patr_unify.proofs.Running.{was_pushed, pair_held, still_held, log_there, same_log, running_on, falls_on, clash_refutes}
 use Rattle.patr_unify.proofs.settle.settle_all.Goals as goal
 
-pub settle-requires-clause-a : goal.settle-requires-clause-a
-settle-requires-clause-a g c =
+pub settle-requires : goal.settle-requires
+settle-requires g c =
     let v = g.N.Nodes.shown c.args.nodes.now in
     let t = c.pop_pair.new.self in
-    let eq = was_pushed c.loop-a.scratch t (c.in-Some.a, c.in-Some.b) c.in-Some.ensures.rest c.in-Some.ensures.last in
+    let a = c.in-Some.a in
+    let b = c.in-Some.b in
     let q = c.requires in
-    let run = subst (λ (z : Contents). IsRunning v z q.0 q.1 q.2 q.3) eq (c.loop-a.invariant.running q.0 q.1 q.2 q.3 q.4 q.5) in
-    (pair_held v t.pairs (c.in-Some.a, c.in-Some.b) run.pairs_held).1
-
-pub settle-requires-clause-b : goal.settle-requires-clause-b
-settle-requires-clause-b g c =
-    let v = g.N.Nodes.shown c.args.nodes.now in
-    let t = c.pop_pair.new.self in
-    let eq = was_pushed c.loop-a.scratch t (c.in-Some.a, c.in-Some.b) c.in-Some.ensures.rest c.in-Some.ensures.last in
-    let q = c.requires in
-    let run = subst (λ (z : Contents). IsRunning v z q.0 q.1 q.2 q.3) eq (c.loop-a.invariant.running q.0 q.1 q.2 q.3 q.4 q.5) in
-    (pair_held v t.pairs (c.in-Some.a, c.in-Some.b) run.pairs_held).2
-
-pub settle-requires-clause-held : goal.settle-requires-clause-held
-settle-requires-clause-held g c =
-    let v = g.N.Nodes.shown c.args.nodes.now in
-    let t = c.pop_pair.new.self in
-    let eq = was_pushed c.loop-a.scratch t (c.in-Some.a, c.in-Some.b) c.in-Some.ensures.rest c.in-Some.ensures.last in
-    let q = c.requires in
-    let run = subst (λ (z : Contents). IsRunning v z q.0 q.1 q.2 q.3) eq (c.loop-a.invariant.running q.0 q.1 q.2 q.3 q.4 q.5) in
-    still_held v t c.in-Some.a c.in-Some.b q.0 q.1 q.2 q.3 run
-
-pub settle-requires-clause-pairs_held : goal.settle-requires-clause-pairs_held
-settle-requires-clause-pairs_held g c =
-    let v = g.N.Nodes.shown c.args.nodes.now in
-    let t = c.pop_pair.new.self in
-    let eq = was_pushed c.loop-a.scratch t (c.in-Some.a, c.in-Some.b) c.in-Some.ensures.rest c.in-Some.ensures.last in
-    let q = c.requires in
-    let run = subst (λ (z : Contents). IsRunning v z q.0 q.1 q.2 q.3) eq (c.loop-a.invariant.running q.0 q.1 q.2 q.3 q.4 q.5) in
-    (pair_held v t.pairs (c.in-Some.a, c.in-Some.b) run.pairs_held).0
-
-pub settle-requires-clause-log : goal.settle-requires-clause-log
-settle-requires-clause-log g c =
-    let v = g.N.Nodes.shown c.args.nodes.now in
-    let t = c.pop_pair.new.self in
-    let eq = was_pushed c.loop-a.scratch t (c.in-Some.a, c.in-Some.b) c.in-Some.ensures.rest c.in-Some.ensures.last in
-    let q = c.requires in
-    let run = subst (λ (z : Contents). IsRunning v z q.0 q.1 q.2 q.3) eq (c.loop-a.invariant.running q.0 q.1 q.2 q.3 q.4 q.5) in
-    log_there v t c.in-Some.a c.in-Some.b q.0 q.1 q.2 q.3 q.4 run
+    let run = subst (λ (z : Contents). IsRunning v z q.0 q.1 q.2 q.3) (was_pushed c.loop-a.scratch t (a, b) c.in-Some.ensures.rest c.in-Some.ensures.last) (c.loop-a.invariant.running q.0 q.1 q.2 q.3 q.4 q.5) in
+    let held = pair_held v t.pairs (a, b) run.pairs_held in
+    record {
+      a = held.1;
+      b = held.2;
+      held = still_held v t a b q.0 q.1 q.2 q.3 run;
+      pairs_held = held.0;
+      log = log_there v t a b q.0 q.1 q.2 q.3 q.4 run;
+    }
 
 pub returns-then-not-settle-clause-clash : goal.returns-then-not-settle-clause-clash
 returns-then-not-settle-clause-clash g c _ l r target ks covers start =

@@ -39,49 +39,21 @@ loop-top-init g c =
       room = search rules;
     }
 
-pub go_on-requires-clause-top : goal.go_on-requires-clause-top
-go_on-requires-clause-top g c =
+pub go_on-requires : goal.go_on-requires
+go_on-requires g c =
     let v = g.N.Nodes.shown c.args.nodes.now in
     let w = c.args.scratch.now in
+    let t = c.pop_visit.new.self in
     let l = number_of v c.args.left.block c.args.left.offset in
     let i = c.requires.start in
-    (at_place v w c.loop-top.scratch c.pop_visit.new.self l i c.in-Some.top c.loop-top.from (c.loop-top.invariant.walked i) c.in-Some.ensures.rest c.in-Some.ensures.last).top_held
-
-pub go_on-requires-clause-held : goal.go_on-requires-clause-held
-go_on-requires-clause-held g c =
-    let v = g.N.Nodes.shown c.args.nodes.now in
-    let w = c.args.scratch.now in
-    let l = number_of v c.args.left.block c.args.left.offset in
-    let i = c.requires.start in
-    let at = at_place v w c.loop-top.scratch c.pop_visit.new.self l i c.in-Some.top c.loop-top.from (c.loop-top.invariant.walked i) c.in-Some.ensures.rest c.in-Some.ensures.last in
-    still_held v w c.pop_visit.new.self at.has.still i.held
-
-pub go_on-requires-clause-ending : goal.go_on-requires-clause-ending
-go_on-requires-clause-ending g c =
-    let v = g.N.Nodes.shown c.args.nodes.now in
-    let w = c.args.scratch.now in
-    let l = number_of v c.args.left.block c.args.left.offset in
-    let i = c.requires.start in
-    let at = at_place v w c.loop-top.scratch c.pop_visit.new.self l i c.in-Some.top c.loop-top.from (c.loop-top.invariant.walked i) c.in-Some.ensures.rest c.in-Some.ensures.last in
-    still_ends v w c.pop_visit.new.self l i at.has.still
-
-pub go_on-requires-clause-room : goal.go_on-requires-clause-room
-go_on-requires-clause-room g c =
-    let v = g.N.Nodes.shown c.args.nodes.now in
-    let w = c.args.scratch.now in
-    let l = number_of v c.args.left.block c.args.left.offset in
-    let i = c.requires.start in
-    let at = at_place v w c.loop-top.scratch c.pop_visit.new.self l i c.in-Some.top c.loop-top.from (c.loop-top.invariant.walked i) c.in-Some.ensures.rest c.in-Some.ensures.last in
-    has_room v w c.pop_visit.new.self l i c.in-Some.top c.loop-top.from at
-
-pub go_on-requires-clause-paused : goal.go_on-requires-clause-paused
-go_on-requires-clause-paused g c =
-    let v = g.N.Nodes.shown c.args.nodes.now in
-    let w = c.args.scratch.now in
-    let l = number_of v c.args.left.block c.args.left.offset in
-    let i = c.requires.start in
-    let at = at_place v w c.loop-top.scratch c.pop_visit.new.self l i c.in-Some.top c.loop-top.from (c.loop-top.invariant.walked i) c.in-Some.ensures.rest c.in-Some.ensures.last in
-    at.paused.0
+    let at = at_place v w c.loop-top.scratch t l i c.in-Some.top c.loop-top.from (c.loop-top.invariant.walked i) c.in-Some.ensures.rest c.in-Some.ensures.last in
+    record {
+      top = at.top_held;
+      held = still_held v w t at.has.still i.held;
+      ending = still_ends v w t l i at.has.still;
+      room = has_room v w t l i c.in-Some.top c.loop-top.from at;
+      paused = at.paused.0;
+    }
 
 pub returns-in_default-go_on-clause-walked : goal.returns-in_default-go_on-clause-walked
 returns-in_default-go_on-clause-walked g c i =
