@@ -18,6 +18,7 @@ use Rattle.patr_marks.proofs.Sides.{below_or_behind, own_left, own_right}
 use Rattle.patr_marks.proofs.Unifier.{cycle_ends, reached_side, root_side, run_starts}
 use Rattle.patr_arena.specs.Shown.{Shown, IsShown, ValueIsHeld, value_of}
 use Rattle.patr_arena.specs.declared.value.Value as its
+use Rattle.patr_arena.proofs.Addresses.{value_below}
 use Rattle.patr_scratch.specs.declared.Side.TheVariants as side
 use Rattle.patr_scratch.specs.declared.Target.{Target}
 use Rattle.patr_scratch.specs.Contents.{Contents, HasRoom, PlaceMarks, begun, unmarked}
@@ -195,13 +196,6 @@ module _ (v : Shown) (s : IsShown v) (w : Contents) (l : ℕ) (hl : l < length v
         empty = refl;
       }
 
-  pub decision_starts : (t : Contents) → t ≡ with_first w (target_on side.Left x) (target_on side.Right y)
-      → Covers v l (value_of v y) (both_lists (length v.structure) room.left.list room.right.list) × IsRunning v t l (value_of v y) (value_of v x) (both_lists (length v.structure) room.left.list room.right.list)
-  decision_starts t e = (
-    all_covers v s l (value_of v y) hl room.left.list room.right.list room.left.is room.right.is,
-    subst (λ q. IsRunning v q l (value_of v y) (value_of v x) (both_lists (length v.structure) room.left.list room.right.list)) (sym e) running_starts,
-  )
-
 -- where the walk begins
 abbrev pub walkable : (v : Shown) → IsShown v → (w : Contents) (l : ℕ) (r target : Value) (ks : List ℕ) → Covers v l r ks → IsRunning v w l r target ks → w.pairs ≡ [] → IsWalkable v w l
 walkable v s w l r target ks c i none = record {
@@ -272,6 +266,28 @@ room_stays v s w u t l r hl room has still =
         for_pairs = omega (arith, has.for_pairs, still.pair_room, arcs, room.left.arcs_are, room.right.arcs_are);
       };
     }
+
+-- the first pair is pushed: the decision has begun
+pub record HasBegun (v : Shown) (t : Contents) (l : ℕ) (p : List ℕ) (target r : Value) : Type 0 where
+  pub below : l < length v.structure
+  pub value : IsValue v.structure target
+  pub there : at v.structure (Node l) p ≡ Some target
+  pub ks : List ℕ
+  pub covers : Covers v l r ks
+  pub running : IsRunning v t l r target ks
+  pub stays : (u z : Contents) → HasRoom u (length v.structure) (length ks) (total (λ k. length (own (sides v.structure) k)) ks) → IsStill u z → HasDecisionRoom v z l r
+
+pub decision_begins : (v : Shown) (s : IsShown v) (w : Contents) (l : ℕ) (hl : l < length v.structure) (p : List ℕ) (x y : its.Value) → ValueIsHeld v x → ValueIsHeld v y → at v.structure (Node l) p ≡ Some (value_of v x) → HasDecisionRoom v w l (value_of v y)
+    → (t : Contents) → t ≡ with_first w (target_on side.Left x) (target_on side.Right y) → HasBegun v t l p (value_of v x) (value_of v y)
+decision_begins v s w l hl p x y hx hy there room t e = record {
+  below = hl;
+  value = value_below v s x hx;
+  there = there;
+  ks = both_lists (length v.structure) room.left.list room.right.list;
+  covers = all_covers v s l (value_of v y) hl room.left.list room.right.list room.left.is room.right.is;
+  running = subst (λ q. IsRunning v q l (value_of v y) (value_of v x) (both_lists (length v.structure) room.left.list room.right.list)) (sym e) (running_starts v s w l hl p x y hx hy there room);
+  stays = λ u z. room_stays v s w u z l (value_of v y) hl room;
+}
 
 marks_same : (f g : ℕ → Option Value) (a b : ℕ → Arcs) → ((k : ℕ) → f k ≡ g k) → ((k : ℕ) → a k ≡ b k) → (let m : Marks = record { forward = f; added = a } in m) ≡ record { forward = g; added = b }
 marks_same f g a b e h = λ i. record { forward = λ k. e k i; added = λ k. h k i }
