@@ -84,28 +84,7 @@ copied_starts v w t l r p set fits rank falls root from visited =
 -- the stacks may change beside it
 pub copied_moved : (v : Shown) (w t u : Contents) (l : ℕ) (r : Value) (block : List (List Feature)) (nodes arcs : ℕ) (stack : List ℕ) (ps : List Place) (qs : List (Target × Target)) → HasCopied v w t l r block nodes arcs stack
     → u ≡ record t { visits = ps; pairs = qs } → HasCopied v w u l r block nodes arcs stack
-copied_moved v w t u l r block nodes arcs stack ps qs h e = subst (λ z. HasCopied v w z l r block nodes arcs stack) (sym e) (record {
-  still = record { places = h.still.places; pair_room = h.still.pair_room; visit_room = h.still.visit_room; forward = h.still.forward; added = h.still.added };
-  rank = h.rank;
-  falls = h.falls;
-  ks = h.ks;
-  value = h.value;
-  copy = h.copy;
-  sparing = h.sparing;
-  once = h.once;
-  ends = h.ends;
-  apart = h.apart;
-  falling = h.falling;
-  root = h.root;
-  entered = h.entered;
-  back = h.back;
-  others = h.others;
-  marked = h.marked;
-  fits = h.fits;
-  old = h.old;
-  nodes_are = h.nodes_are;
-  arcs_are = h.arcs_are;
-})
+copied_moved v w t u l r block nodes arcs stack ps qs h e = subst (λ z. HasCopied v w z l r block nodes arcs stack) (sym e) h
 
 -- twice one for a place that was not entered
 abbrev pub to_enter : Visit → ℕ

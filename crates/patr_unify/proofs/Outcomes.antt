@@ -87,6 +87,19 @@ end_is v w log from t h e =
     let last = final_end (forward_of v w) log h.table (value_at v t) e.last in
     (sym (follow_ends e.steps (forward_of v w) log h.is_log h.table (value_at v from)) ∙ (ap (ends log) e.follows ∙ last), last)
 
+-- the ends of a pair
+pub record AreEnds (v : Shown) (log : List Forward) (a : Target) (b : Target) (x : Target) (y : Target) : Type 0 where
+  pub first : ends log (value_at v a) ≡ value_at v x
+  pub first_end : ends log (value_at v x) ≡ value_at v x
+  pub second : ends log (value_at v b) ≡ value_at v y
+  pub second_end : ends log (value_at v y) ≡ value_at v y
+
+pub ends_are : (v : Shown) (w : Contents) (log : List Forward) (a b x y : Target) → HasLog v w log → IsEndOf v w a x → IsEndOf v w b y → AreEnds v log a b x y
+ends_are v w log a b x y h e f =
+    let one = end_is v w log a x h e in
+    let two = end_is v w log b y h f in
+    record { first = one.0; first_end = one.1; second = two.0; second_end = two.1 }
+
 -- two places with one key are the same
 pub key_one : (v : Shown) → IsShown v → (p q : Place) → IsHeld v p.block p.offset → IsHeld v q.block q.offset → key v p ≡ key v q → p ≡ q
 key_one v s p q hp hq e =

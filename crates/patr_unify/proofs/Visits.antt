@@ -35,17 +35,4 @@ visited v w t p number state s a h e g =
 
 -- the stacks may change after it
 pub visited_then : (v : Shown) (w t u : Contents) (k : ℕ) (state : Visit) (ps : List Place) (qs : List (Target × Target)) → IsVisited v w t k state → u ≡ record t { visits = ps; pairs = qs } → IsVisited v w u k state
-visited_then v w t u k state ps qs h e = subst (λ z. IsVisited v w z k state) (sym e) (record {
-  still = record {
-    places = h.still.places;
-    arcs = h.still.arcs;
-    arc_room = h.still.arc_room;
-    pair_room = h.still.pair_room;
-    visit_room = h.still.visit_room;
-    forward = h.still.forward;
-    copied = h.still.copied;
-    added = h.still.added;
-  };
-  here = h.here;
-  others = h.others;
-})
+visited_then v w t u k state ps qs h e = subst (λ z. IsVisited v w z k state) (sym e) h

@@ -86,26 +86,7 @@ held_pushed v [] qs h k = k
 held_pushed v (p ∷ ps) qs h k = (h.0, held_pushed v ps qs h.1 k)
 
 stack_moved : (v : Shown) (w t u : Contents) (l : ℕ) (i : IsWalkable v w l) (stack : List ℕ) (ps : List Place) → HasStack v w t l i stack → u ≡ record t { visits = ps } → HasStack v w u l i stack
-stack_moved v w t u l i stack ps h e = subst (λ z. HasStack v w z l i stack) (sym e) (record {
-  still = record {
-    places = h.still.places;
-    arcs = h.still.arcs;
-    arc_room = h.still.arc_room;
-    pair_room = h.still.pair_room;
-    visit_room = h.still.visit_room;
-    forward = h.still.forward;
-    copied = h.still.copied;
-    added = h.still.added;
-  };
-  root = h.root;
-  from = h.from;
-  order = h.order;
-  walk = h.walk;
-  entered = h.entered;
-  on_stack = h.on_stack;
-  left = h.left;
-  in_order = h.in_order;
-})
+stack_moved v w t u l i stack ps h e = subst (λ z. HasStack v w z l i stack) (sym e) h
 
 -- the top of the stack is taken
 pub at_place : (v : Shown) (w t u : Contents) (l : ℕ) (i : IsWalkable v w l) (top : Place) (c : Cursor) → HasWalked v w t l i c → u ≡ record t { visits = u.visits } → t.visits ≡ u.visits ++ top ∷ [] → IsAtPlace v w u l i top c

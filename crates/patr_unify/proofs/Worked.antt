@@ -28,7 +28,7 @@ use Rattle.patr_unify.specs.Deciding.{IsEndOfLeft}
 use Rattle.patr_unify.specs.Merging.{both}
 use Rattle.patr_unify.specs.Reading.{AreHeld, LinksHeld, OptionIsHeld, added_of, behind, forward_of, key, marks_in, option_at, slot_of, value_on}
 use Rattle.patr_unify.specs.Reading as reading
-use Rattle.patr_unify.specs.Walking.{AllEnd, end_value, visit_of}
+use Rattle.patr_unify.specs.Walking.{AllEnd, bare, end_value, visit_of}
 use Rattle.patr_unify.proofs.Outcomes.{follow_ext}
 
 -- the places of new nodes
@@ -62,13 +62,17 @@ pub copied_more : (v : Shown) (size : ℕ) (o : Option Copied) (x : Value) → I
 copied_more v size None x h = h
 copied_more v size (Some d) x h = (h.0, fits_more v size (ref_to d) h.1)
 
--- what stays while a copy is made
-pub record IsWorked (w : Contents) (t : Contents) : Type 0 where
+-- forwards and added arcs are the same
+pub record SameArcs (w : Contents) (t : Contents) : Type 0 where
   pub places : length t.places ≡ length w.places
   pub pair_room : t.pair_room ≡ w.pair_room
   pub visit_room : t.visit_room ≡ w.visit_room
   pub forward : (j : ℕ) → (marks_in t j).forward ≡ (marks_in w j).forward
   pub added : (j : ℕ) → (marks_in t j).added ≡ (marks_in w j).added
+
+-- what stays while a copy is made
+abbrev pub IsWorked : Contents → Contents → Type 0
+IsWorked w t = SameArcs (bare w) (bare t)
 
 module _ (v : Shown) (w t : Contents) (h : IsWorked w t) where
   pub worked_forward : (k : ℕ) → forward_of v t k ≡ forward_of v w k
@@ -107,7 +111,7 @@ falling_once rank [] h = tt
 falling_once rank (k ∷ ks) h = ((λ n. let low = h.0 k n in absurd (omega (arith, low))), falling_once rank ks h.1)
 
 -- what was copied, and what is on the stack
-pub record HasCopied (v : Shown) (w : Contents) (t : Contents) (l : ℕ) (r : Value) (block : List (List Feature)) (nodes : ℕ) (arcs : ℕ) (stack : List ℕ) : Type 0 where
+pub record CopiedMarks (v : Shown) (w : Contents) (t : Contents) (l : ℕ) (r : Value) (block : List (List Feature)) (nodes : ℕ) (arcs : ℕ) (stack : List ℕ) : Type 0 where
   pub still : IsWorked w t
   pub rank : ℕ → ℕ
   pub falls : (j k a : ℕ) (x : Value) → IsEndOfLeft v w l j → Has (both v w j) a x → end_value v w x ≡ Node k → rank k < rank j
@@ -128,6 +132,10 @@ pub record HasCopied (v : Shown) (w : Contents) (t : Contents) (l : ℕ) (r : Va
   pub old : OldIsHeld v block
   pub nodes_are : nodes ≡ length ks
   pub arcs_are : arcs ≡ total (λ k. length (arcs_of (v.structure ++ new_nodes v block) (value k))) ks
+
+-- the copy with this stack
+abbrev pub HasCopied : Shown → Contents → Contents → ℕ → Value → List (List Feature) → ℕ → ℕ → List ℕ → Type 0
+HasCopied v w t l r block nodes arcs stack = CopiedMarks v w (bare t) l r block nodes arcs stack
 
 -- an end's copy, by its mark
 pub ref_value : (v : Shown) (t : Contents) (size : ℕ) (value : ℕ → Value) (ks : List ℕ) (x : Value) (r : Ref) → ((k : ℕ) → IsIn ks k → IsCopiedTo v size (copied_of v t k) (value k)) → Below ks x → IsEndRef v t x r
