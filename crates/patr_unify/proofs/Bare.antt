@@ -9,8 +9,7 @@ use Rattle.patr_arena.specs.Shown.{Shown, IsShown, IsHeld, number_of, ref_of, ar
 use Rattle.patr_scratch.specs.declared.Side.{Side}
 use Rattle.patr_scratch.specs.declared.Side.TheVariants as side
 use Rattle.patr_scratch.specs.declared.Place.{Place}
-use Rattle.patr_scratch.specs.Contents.{Link}
-use Rattle.patr_scratch.specs.Contents.{PlaceMarks, Contents, marks, first_cell}
+use Rattle.patr_scratch.specs.Contents.{Link, PlaceMarks, Contents, marks, first_cell}
 use Rattle.patr_unify.specs.Reading.{key, value_at, marks_of, arcs_at, added_of, arcs_on}
 use Rattle.patr_unify.specs.Merging.{both}
 use Rattle.patr_unify.proofs.Keys.{own_key, key_marks}

@@ -7,9 +7,8 @@ use Rattle.std.proofs.lemmas.List.{length-map, map-append}
 use Rattle.patr_model.specs.Structure.{Value, Atom, Node, Arc, HasDistinct, IsBelow, along, arc, arcs_of}
 use Rattle.patr_marks.specs.Machine.{Has, IsIn, own}
 use Rattle.patr_marks.specs.Quotient.{Below}
-use Rattle.patr_marks.specs.Settled.{Copy, Copying, IsCopy, IsSparing, all_arcs, base, covered, extend, keep_end, keeps, led_by, new_end, stays, through}
+use Rattle.patr_marks.specs.Settled.{Copy, Copying, IsCopy, IsSparing, all_arcs, base, covered, extend, keep_end, keeps, led_by, new_end, stays, through, IsFinal, follow}
 use Rattle.patr_marks.specs.Settled as marks_settled
-use Rattle.patr_marks.specs.Settled.{IsFinal, follow}
 use Rattle.patr_marks.specs.Sides.{IsSide, sides}
 use Rattle.patr_marks.proofs.Lists.{has_left}
 use Rattle.patr_marks.proofs.Copy.{base_below, base_has, kept_is_copy, node_is_copy, put_in, put_same, stays_has}
@@ -33,7 +32,8 @@ use Rattle.patr_unify.specs.Deciding.{IsEndOfLeft, IsSettledFor}
 use Rattle.patr_unify.specs.Merging.{both}
 use Rattle.patr_unify.specs.Reading.{added_of, forward_of, key, marks_in, slot_of}
 use Rattle.patr_unify.specs.Walking.{HasVisit, IsFoundAt, IsOther, end_value, visit_of}
-use Rattle.patr_unify.proofs.Worked.{HasCopied, IsFalling, IsWorked, arcs_longer, base_arcs, base_key, copied_more, falling_once, left_or, mark_more, new_place, old_from, old_to, ref_value, worked_added, worked_both, worked_end, worked_forward}
+use Rattle.patr_unify.proofs.CopyLoop.{marked_keeps}
+use Rattle.patr_unify.proofs.Worked.{HasCopied, IsFalling, IsWorked, arcs_longer, base_arcs, base_key, copied_more, falling_once, left_or, mark_more, new_place, old_from, old_to, ref_value, still_worked, worked_added, worked_both, worked_end, worked_forward, worked_then}
 
 -- one end is copied
 module _ (v : Shown) (s : IsShown v) (w t u : Contents) (l : ℕ) (r : Value) (p : List ℕ) (set : IsSettledFor v w l p r) (fits : marks_settled.Fits (IsSide v.structure l r) (copying_by v w))
@@ -112,13 +112,7 @@ module _ (v : Shown) (s : IsShown v) (w t u : Contents) (l : ℕ) (r : Value) (p
       ] in
       let new : (k : ℕ) → IsIn (key v top ∷ rest) k ⊎ IsIn has.ks k → IsIn (J ∷ key v top ∷ rest) k ⊎ IsIn has.ks k = λ k m. elim m [ inl i ↦ inl (inr i) | inr i ↦ inr i ] in
       record {
-        still = record {
-          places = still.places ∙ has.still.places;
-          pair_room = still.pair_room ∙ has.still.pair_room;
-          visit_room = still.visit_room ∙ has.still.visit_room;
-          forward = λ j. still.forward j ∙ has.still.forward j;
-          added = λ j. still.added j ∙ has.still.added j;
-        };
+        still = worked_then w t u has.still (still_worked t u still);
         rank = has.rank;
         falls = has.falls;
         ks = has.ks;
@@ -236,13 +230,7 @@ module _ (v : Shown) (s : IsShown v) (w t u : Contents) (l : ℕ) (r : Value) (p
 
     module _ (d : Copied) (m : IsCopyMarked v t u (key v top) d) where
       worked : IsWorked w u
-      worked = record {
-        places = m.places ∙ has.still.places;
-        pair_room = m.pair_room ∙ has.still.pair_room;
-        visit_room = m.visit_room ∙ has.still.visit_room;
-        forward = λ j. m.forward j ∙ has.still.forward j;
-        added = λ j. m.added j ∙ has.still.added j;
-      }
+      worked = worked_then w t u has.still (marked_keeps v t u (key v top) d m).0
 
       same_visit : (k : ℕ) → visit_of v u k ≡ visit_of v t k
       same_visit k = m.visit (slot_of n k)

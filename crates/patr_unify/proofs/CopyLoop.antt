@@ -3,9 +3,8 @@ use Rattle.std.proofs.Common.{◌≡◌, ◌≢◌, ℕ, zero, suc, ◌+◌, ◌
 use Rattle.std.proofs.lemmas.Bool.{cases_eq}
 use Rattle.patr_model.specs.Structure.{Value, Node}
 use Rattle.patr_marks.specs.Machine.{Has, total}
-use Rattle.patr_marks.specs.Settled.{Copy, Copying, IsCopy, IsSparing, all_arcs, base, covered, extend, keep_end, keeps, led_by, new_end, stays, through}
+use Rattle.patr_marks.specs.Settled.{Copy, Copying, IsCopy, IsSparing, all_arcs, base, covered, extend, keep_end, keeps, led_by, new_end, stays, through, IsFinal, follow}
 use Rattle.patr_marks.specs.Settled as marks_settled
-use Rattle.patr_marks.specs.Settled.{IsFinal, follow}
 use Rattle.patr_marks.specs.Sides.{IsSide}
 use Rattle.patr_marks.proofs.Room.{total_change}
 use Rattle.patr_marks.proofs.Growth.{nothing_spares}
@@ -27,9 +26,10 @@ use Rattle.patr_unify.specs.Merging.{both}
 use Rattle.patr_unify.specs.Reading.{key, slot_of}
 use Rattle.patr_unify.specs.Walking.{IsVisited, end_value, visit_of}
 use Rattle.patr_unify.specs.Stepping.{upto}
+use Rattle.patr_unify.proofs.Keys.{node_one}
 use Rattle.patr_unify.proofs.Outcomes.{key_below}
 use Rattle.patr_unify.proofs.Running.{total_ext, upto_in, upto_once}
-use Rattle.patr_unify.proofs.Worked.{HasCopied, IsWorked}
+use Rattle.patr_unify.proofs.Worked.{HasCopied, IsWorked, still_worked}
 
 -- where the copy begins
 pub copied_starts : (v : Shown) (w t : Contents) (l : ℕ) (r : Value) (p : List ℕ) (set : IsSettledFor v w l p r) → marks_settled.Fits (IsSide v.structure l r) (copying_by v w) → (rank : ℕ → ℕ)
@@ -39,7 +39,7 @@ copied_starts v w t l r p set fits rank falls root from visited =
     let still = visited.still in
     let K = key v root in
     record {
-      still = record { places = still.places; pair_room = still.pair_room; visit_room = still.visit_room; forward = still.forward; added = still.added };
+      still = still_worked w t still;
       rank = rank;
       falls = falls;
       ks = [];
@@ -50,7 +50,7 @@ copied_starts v w t l r p set fits rank falls root from visited =
       ends = λ k m. elim m [ inl i ↦ elim i [ inl e ↦ (0, from ∙ ap Node e) | inr j ↦ absurd j ] | inr i ↦ absurd i ];
       apart = λ k m i. i;
       falling = (λ j m. absurd m, tt);
-      root = λ k e. inl (inl (one K k (sym from ∙ e)));
+      root = λ k e. inl (inl (node_one K k (sym from ∙ e)));
       entered = λ k m. elim m [ inl i ↦ elim i [ inl e ↦ ap (visit_of v t) (sym e) ∙ visited.here | inr j ↦ absurd j ] | inr i ↦ absurd i ];
       back = λ k e. elim (cases_eq k K) [ inl f ↦ inl (inl (sym f)) | inr ne ↦ absurd (not_entered k (sym (visited.others k ne) ∙ e)) ];
       others = λ k. elim (cases_eq k K) [ inl f ↦ inl (ap (visit_of v t) f ∙ visited.here) | inr ne ↦ inr (visited.others k ne) ];
@@ -61,25 +61,12 @@ copied_starts v w t l r p set fits rank falls root from visited =
       arcs_are = refl;
     }
   where
-    one : (j k : ℕ) → Node j ≡ Node k → j ≡ k
-    one j k e = cc
-
     nothing_old : OldIsHeld v []
     nothing_old zero = tt
     nothing_old (suc k) = tt
 
-    two_visits : {A : Type 0} (x : Visit) → x ≡ visit.Entered → x ≡ visit.Left → A
-    two_visits visit.Unseen e f = cc
-    two_visits visit.Entered e f = cc
-    two_visits visit.Left e f = cc
-
-    unseen_visit : {A : Type 0} (x : Visit) → x ≡ visit.Entered → x ≡ visit.Unseen → A
-    unseen_visit visit.Unseen e f = cc
-    unseen_visit visit.Entered e f = cc
-    unseen_visit visit.Left e f = cc
-
     not_entered : (k : ℕ) → visit_of v w k ≡ visit.Entered → ⊥
-    not_entered k e = unseen_visit (visit_of v w k) e (set.unseen k (λ h. two_visits (visit_of v w k) e (set.left k h)))
+    not_entered k e = let q : visit.Entered ≡ visit.Unseen = sym e ∙ set.unseen k (λ h. (let z : visit.Entered ≡ visit.Left = sym e ∙ set.left k h in cc)) in cc
 
 -- the stacks may change beside it
 pub copied_moved : (v : Shown) (w t u : Contents) (l : ℕ) (r : Value) (block : List (List Feature)) (nodes arcs : ℕ) (stack : List ℕ) (ps : List Place) (qs : List (Target × Target)) → HasCopied v w t l r block nodes arcs stack
@@ -100,7 +87,7 @@ enter_two visit.Unseen n = refl
 enter_two visit.Entered n = absurd (n refl)
 enter_two visit.Left n = refl
 
-marked_keeps : (v : Shown) (u m : Contents) (k : ℕ) (d : Copied) → IsCopyMarked v u m k d → IsWorked u m × ((j : ℕ) → visit_of v m j ≡ visit_of v u j) × (m.visits ≡ u.visits) × (m.pairs ≡ u.pairs)
+pub marked_keeps : (v : Shown) (u m : Contents) (k : ℕ) (d : Copied) → IsCopyMarked v u m k d → IsWorked u m × ((j : ℕ) → visit_of v m j ≡ visit_of v u j) × (m.visits ≡ u.visits) × (m.pairs ≡ u.pairs)
 marked_keeps v u m k d h = (
   record { places = h.places; pair_room = h.pair_room; visit_room = h.visit_room; forward = h.forward; added = h.added },
   λ j. h.visit (slot_of (length v.structure) j),

@@ -13,15 +13,17 @@ use Rattle.patr_scratch.specs.declared.Side.{Side}
 use Rattle.patr_scratch.specs.declared.Side.TheVariants as side
 use Rattle.patr_scratch.specs.declared.Place.{Place}
 use Rattle.patr_scratch.specs.declared.Target.{Target}
-use Rattle.patr_scratch.specs.Contents.{Link}
-use Rattle.patr_scratch.specs.Contents.{PlaceMarks, Contents, slot, marks, after, first_cell, from_cell, EndsOrHas}
+use Rattle.patr_scratch.specs.Contents.{Link, PlaceMarks, Contents, slot, marks, after, first_cell, from_cell, EndsOrHas}
 use Rattle.patr_unify.specs.Reading.{behind, key, value_at, TargetIsHeld, slot_of, marks_in, marks_of, option_at, forward_of, arcs_at, added_of, LinksHeld, OptionIsHeld, AreHeld, has_link, link_to, value_on, arcs_on, target_on}
 use Rattle.patr_unify.specs.Merging.{both}
 
-lt_true : (k n : ℕ) → k < n → nat_lt k n ≡ true
+pub node_one : (j k : ℕ) → Node j ≡ Node k → j ≡ k
+node_one j k e = cc
+
+pub lt_true : (k n : ℕ) → k < n → nat_lt k n ≡ true
 lt_true k n h = grind arith
 
-lt_false : (k n : ℕ) → n ≤ k → nat_lt k n ≡ false
+pub lt_false : (k n : ℕ) → n ≤ k → nat_lt k n ≡ false
 lt_false k n h = grind arith
 
 slot_behind : (s : Side) (n k : ℕ) → k < n → slot_of n (behind s n k) ≡ slot s k

@@ -218,10 +218,5 @@ copied_nothing v s w l p r hl set d e = record {
     nothing_old zero = tt
     nothing_old (suc k) = tt
 
-    unseen_visit : {A : Type 0} (x : Visit) → x ≡ visit.Entered → x ≡ visit.Unseen → A
-    unseen_visit visit.Unseen e f = cc
-    unseen_visit visit.Entered e f = cc
-    unseen_visit visit.Left e f = cc
-
     not_entered : (k : ℕ) → visit_of v w k ≡ visit.Entered → ⊥
-    not_entered k q = unseen_visit (visit_of v w k) q (set.unseen k (λ h. nothing h.0 k h.1))
+    not_entered k q = let z : visit.Entered ≡ visit.Unseen = sym q ∙ set.unseen k (λ h. nothing h.0 k h.1) in cc

@@ -21,7 +21,7 @@ use Rattle.patr_unify.specs.Reading.{behind, key, value_at, slot_of, marks_in, o
 use Rattle.patr_unify.specs.Merging.{both, rev_onto, IsMerged}
 use Rattle.patr_unify.specs.Stepping.{HasLog, pair_of, before, Outcome, IsSteady, bound, BoundOrNot}
 use Rattle.patr_unify.proofs.Follow.{or_stay}
-use Rattle.patr_unify.proofs.Keys.{key_slot, key_room, slot_one}
+use Rattle.patr_unify.proofs.Keys.{key_slot, key_room, node_one, slot_one}
 use Rattle.patr_unify.proofs.Merges.{marks_put, field_put}
 
 pub follow_ext : (n : ℕ) (f g : ℕ → Option Value) (x : Value) → ((k : ℕ) → f k ≡ g k) → follow n f x ≡ follow n g x
@@ -170,7 +170,7 @@ pub merge_step : (v : Shown) (w t : Contents) (log : List Forward) (a b : Target
 merge_step v w t log a b A B h m n lA lB e eA eB =
     let ms = missing (own (sides v.structure) A) (added_of v w A) (both v w B) in (
       record { from = A; to = Node B } ∷ log,
-      log_more v w t log A (Node B) h eA eB (λ q. n (node B A q)) m.forward m.forwards,
+      log_more v w t log A (Node B) h eA eB (λ q. n (sym (node_one B A q))) m.forward m.forwards,
       omega arith,
       inl (
         A,
@@ -193,9 +193,6 @@ merge_step v w t log a b A B h m n lA lB e eA eB =
         },
       ),
     )
-  where
-    node : (j k : ℕ) → Node j ≡ Node k → k ≡ j
-    node j k q = cc
 
 pub same_steady : (v : Shown) (w : Contents) → AreHeld v w → PairsHeld v w.pairs → IsSteady v w w
 same_steady v w h p = record { places = refl; arc_room = refl; pair_room = refl; visits = refl; visit_room = refl; copied = λ j. refl; visit = λ j. refl; held = h; pairs_held = p }

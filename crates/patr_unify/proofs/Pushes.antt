@@ -9,8 +9,7 @@ use Rattle.patr_scratch.specs.declared.Side.{Side}
 use Rattle.patr_scratch.specs.declared.Place.{Place}
 use Rattle.patr_scratch.specs.declared.Target.{Target}
 use Rattle.patr_scratch.specs.declared.Target.TheVariants as target
-use Rattle.patr_scratch.specs.Contents.{Link}
-use Rattle.patr_scratch.specs.Contents.{PlaceMarks, Contents, unmarked, slot, marks, put, with_moved, HasPlace, HasCell, EndsOrHas, after, from_cell}
+use Rattle.patr_scratch.specs.Contents.{Link, PlaceMarks, Contents, unmarked, slot, marks, put, with_moved, HasPlace, HasCell, EndsOrHas, after, from_cell}
 use Rattle.patr_unify.specs.Reading.{key, value_at, TargetIsHeld, slot_of, marks_in, option_at, arcs_at, added_of, pairs_at, LinksHeld, PairsHeld, OptionIsHeld, AreHeld, has_link}
 use Rattle.patr_unify.specs.Merging.{both, one_pair, IsTaken, HasMergeRoom, IsMerged, IsPushed}
 use Rattle.patr_unify.proofs.Keys.{key_slot, key_marks, key_room, slot_one, has_links}

@@ -22,6 +22,8 @@ use Rattle.patr_unify.specs.Deciding.{IsEndIn, IsEndOfLeft, IsSettledFor, marks_
 use Rattle.patr_unify.specs.Merging.{both}
 use Rattle.patr_unify.specs.Reading.{forward_of}
 use Rattle.patr_unify.specs.Walking.{AllEnd, end_value, visit_of}
+use Rattle.patr_unify.proofs.Keeping.{free_behind}
+use Rattle.patr_unify.proofs.Keys.{lt_true}
 use Rattle.patr_unify.proofs.Walks.{one_end as one_final}
 
 -- the marks of a settled scratch, by number, where forwards are followed as far as there is room for pairs
@@ -164,31 +166,17 @@ module _ (v : Shown) (s : IsShown v) (w : Contents) (l : ℕ) (p : List ℕ) (r 
   taken None visit.Left f = refl
   taken (Some x) state f = refl
 
-  behind_free : (k : ℕ) → free_of v w (length v.structure + k) ≡ stays_free (forward_of v w k) (visit_of v w k)
-  behind_free k =
-      ap (λ b. cond b true (stays_free (forward_of v w ((length S + k) - length S)) (visit_of v w ((length S + k) - length S)))) (not_below (length S) k)
-      ∙ ap (λ j. stays_free (forward_of v w j) (visit_of v w j)) (back (length S) k)
-    where
-      not_below : (n k : ℕ) → nat_lt (n + k) n ≡ false
-      not_below n k = grind arith
-
-      back : (n k : ℕ) → (n + k) - n ≡ k
-      back n k = omega arith
-
   reached_left : (k : ℕ) → k < length v.structure → IsSide v.structure l r k → IsReached v.structure (Node l) k
   reached_left k h n = subst (IsSideNode S (Node l) S r) (side_left (length S) k h) (side_to S s.structure l r hl k n)
 
   pub is_free : IsFree v.structure l r (free_of v w)
   is_free = record {
-    left = λ k h. (let below = reached_below S s.structure l k hl h in ap (λ b. cond b true (stays_free (forward_of v w (k - length S)) (visit_of v w (k - length S)))) (under k (length S) below));
-    right = λ k h n. behind_free k ∙ forward_or (forward_of v w k) (visit_of v w k)
+    left = λ k h. (let below = reached_below S s.structure l k hl h in ap (λ b. cond b true (stays_free (forward_of v w (k - length S)) (visit_of v w (k - length S)))) (lt_true k (length S) below));
+    right = λ k h n. free_behind v w k ∙ forward_or (forward_of v w k) (visit_of v w k)
         (λ x e. n (reached_left k (right_below k h) (set.tidy.sides_only k x e)))
         (set.unseen k (λ e. n (reached_left k (right_below k h) (reached_is_end e.0 k e.1).0)));
   }
     where
-      under : (k n : ℕ) → k < n → nat_lt k n ≡ true
-      under k n h = grind arith
-
       right_below : (k : ℕ) → IsReached v.structure r k → k < length v.structure
       right_below k h = path_below S s.structure (length S) h.0 r (Node k) set.right h.1
 
@@ -204,5 +192,5 @@ module _ (v : Shown) (s : IsShown v) (w : Contents) (l : ℕ) (p : List ℕ) (r 
           let e = b.1 in
           omega (arith, low, e)
     ];
-    free_is = λ k h g b. behind_free k ∙ taken (forward_of v w k) (visit_of v w k) (λ e. set.left k (subst (Within (IsEndOfLeft v w l)) (follow_final w.pair_room (forward_of v w) (Node k) e) (all_reached k h)));
+    free_is = λ k h g b. free_behind v w k ∙ taken (forward_of v w k) (visit_of v w k) (λ e. set.left k (subst (Within (IsEndOfLeft v w l)) (follow_final w.pair_room (forward_of v w) (Node k) e) (all_reached k h)));
   }

@@ -3,7 +3,7 @@ use Rattle.std.proofs.Common.{◌≡◌, ◌≢◌, ℕ, zero, suc, ◌+◌, ◌
 use Rattle.std.proofs.lemmas.Bool.{cases_eq}
 use Rattle.patr_model.specs.Structure.{Value, Atom, Node, Arcs, Structure, IsValue, at}
 use Rattle.patr_model.specs.Subsumption.{TakesBoth}
-use Rattle.patr_marks.specs.Machine.{Forward, Pair, State, Has, IsLog, Ends, ends, IsEnd, IsIn, NoRepeats, IsMerge, own, missing, matches, arcs_at, weight, left_over, total, is_forwarded, degree}
+use Rattle.patr_marks.specs.Machine.{Forward, Pair, State, Has, IsLog, Ends, ends, IsEnd, IsIn, NoRepeats, IsMerge, own, missing, matches, arcs_at, weight, left_over, total, is_forwarded, degree, lookup}
 use Rattle.patr_marks.specs.Sides.{sides, IsSide}
 use Rattle.patr_marks.specs.Run.{IsRun}
 use Rattle.patr_marks.proofs.Lists.{ends_twice}
@@ -18,7 +18,6 @@ use Rattle.patr_unify.specs.Reading.{TargetIsHeld, added_of, pairs_at, PairsHeld
 use Rattle.patr_unify.specs.Merging.{both}
 use Rattle.patr_unify.specs.Stepping.{HasLog, pair_of, before, MergesFit, Outcome, IsSteady, Covers, IsRunning, weight_of, upto}
 use Rattle.patr_unify.specs.Following.{is_some}
-use Rattle.patr_marks.specs.Machine.{lookup}
 use Rattle.patr_unify.proofs.Merges.{pairs_append, pairs_length}
 
 -- the scratch before a pair was popped

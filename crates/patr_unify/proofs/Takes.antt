@@ -16,7 +16,7 @@ use Rattle.patr_unify.proofs.Keys.{own_key}
 use Rattle.patr_unify.proofs.Merges.{kept_same, kept_then, pairs_length}
 
 -- what has no arc of an attribute has none in front of others
-none_has : (es : Arcs) (a : ℕ) → along es a ≡ None → has_attribute es a ≡ false
+pub none_has : (es : Arcs) (a : ℕ) → along es a ≡ None → has_attribute es a ≡ false
 none_has [] a h = refl
 none_has (e ∷ es) a h = go (nat_eq e.attribute a) (none_has es a) h
   where
@@ -24,7 +24,7 @@ none_has (e ∷ es) a h = go (nat_eq e.attribute a) (none_has es a) h
     go true ih h = cc
     go false ih h = ih h
 
-some_has : (es : Arcs) (a : ℕ) (x : Value) → along es a ≡ Some x → has_attribute es a ≡ true
+pub some_has : (es : Arcs) (a : ℕ) (x : Value) → along es a ≡ Some x → has_attribute es a ≡ true
 some_has [] a x h = cc
 some_has (e ∷ es) a x h = go (nat_eq e.attribute a) (some_has es a x) h
   where

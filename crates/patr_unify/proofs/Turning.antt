@@ -28,7 +28,7 @@ use Rattle.patr_unify.proofs.Making.{made}
 use Rattle.patr_unify.proofs.Reaching.{copy_fits, image_falls, numbered, reached_is_end}
 use Rattle.patr_unify.proofs.Edges.{reach_edges}
 use Rattle.patr_unify.proofs.Pauses.{IsOnward, onward_visited, pairs_length, stack_length, stack_popped, stack_pushed, went_back, went_down}
-use Rattle.patr_unify.proofs.Walked.{held_pushed}
+use Rattle.patr_unify.proofs.Walked.{has_some, held_pushed}
 
 module _ (v : Shown) (s : IsShown v) (w : Contents) (l : ℕ) (p : List ℕ) (r : Value) (hl : l < length v.structure) (set : IsSettledFor v w l p r) where
   end_side : (k : ℕ) → IsEndOfLeft v w l k → IsSide v.structure l r k
@@ -61,10 +61,6 @@ module _ (v : Shown) (s : IsShown v) (w : Contents) (l : ℕ) (p : List ℕ) (r 
       let none = ap (length {A = Place}) set.no_visits in
       let fit = lists_fit in
       omega (arith, some, none, fit)
-    where
-      has_some : (ks : List ℕ) (k : ℕ) → IsIn ks k → 1 ≤ length ks
-      has_some [] k m = absurd m
-      has_some (j ∷ ks) k m = omega arith
 
   abbrev i : IsSettled v.structure l p r (marks_by v w)
   i = numbered v s w l p r hl set
@@ -137,9 +133,6 @@ gone_paused v u x top old new c d h (inl (come, same, start)) =
 gone_paused v u x top old new c d h (inr g) =
     let m = g.0 in
     let kept = finish_keeps v u m top old new g.2 in
-    let on : IsOnward v visit.Entered u x = subst (IsOnward v visit.Entered u) (sym g.3) (record {
-      still = record { places = kept.0.places; pair_room = kept.0.pair_room; visit_room = kept.0.visit_room; forward = kept.0.forward; added = kept.0.added };
-      visit = λ k e. kept.1 k ∙ e;
-    }) in
+    let on : IsOnward v visit.Entered u x = subst (IsOnward v visit.Entered u) (sym g.3) (record { still = kept.0; visit = λ k e. kept.1 k ∙ e }) in
     subst (λ ks. ArePaused v x visit.Entered ks d (cursors_of x.pairs)) (sym (ap (stack_of v) (gone_visits v u x top old new d g).1))
     (went_back v visit.Entered u x (stack_of v u.visits) d on h.1 (subst (λ qs. IsTakenFrom qs x.pairs d) kept.3 g.4))

@@ -15,13 +15,13 @@ use Rattle.patr_scratch.specs.declared.Target.{Target}
 use Rattle.patr_scratch.specs.declared.Visit.{Visit}
 use Rattle.patr_scratch.specs.declared.Visit.TheVariants as visit
 use Rattle.patr_scratch.specs.Contents.{Contents}
-use Rattle.patr_unify.specs.Reading.{AreHeld, LinksHeld, OptionIsHeld, IsEndOf, added_of, forward_of, key, marks_in, slot_of, state_of, value_at}
-use Rattle.patr_unify.specs.Reading.{option_at}
+use Rattle.patr_unify.specs.Reading.{AreHeld, LinksHeld, OptionIsHeld, IsEndOf, added_of, forward_of, key, marks_in, slot_of, state_of, value_at, option_at}
 use Rattle.patr_unify.specs.Reading as reading
 use Rattle.patr_unify.specs.Merging.{both}
 use Rattle.patr_unify.specs.Stepping.{HasLog, upto}
 use Rattle.patr_unify.specs.declared.cursor.Cursor.{Cursor}
 use Rattle.patr_unify.specs.Walking.{AllEnd, ArePaused, HasEntered, HasLeft, HasStack, HasVisit, HasVisitRoom, HasWalked, IsAtPlace, IsLedBack, IsOther, IsStill, IsTurned, IsVisited, IsWalkable, IsWalkedOff, LeadsBack, VisitsHeld, cursors_of, end_value, first, stack_of, to_visit, unseen_of, visit_of}
+use Rattle.patr_unify.proofs.Keys.{node_one}
 use Rattle.patr_unify.proofs.Running.{total_ext, upto_in, upto_once}
 use Rattle.patr_unify.proofs.Outcomes.{end_by_log, end_is, key_below, log_ends}
 use Rattle.patr_unify.proofs.Pauses.{none_paused, onward_visited, pairs_length, paused_popped, paused_starts, stack_length, stack_popped, stack_pushed, went_back, went_down}
@@ -99,26 +99,10 @@ at_place v w t u l i top c h e q =
       has = stack_moved v w t u l i (key v top ∷ stack_of v u.visits) u.visits (subst (HasStack v w t l i) (ap (stack_of v) q ∙ stack_popped v u.visits top) h.has) e;
     }
 
--- three visits
 is_unseen : (x : Visit) → x ≢ visit.Left → x ≢ visit.Entered → x ≡ visit.Unseen
 is_unseen visit.Unseen a b = refl
 is_unseen visit.Entered a b = absurd (b refl)
 is_unseen visit.Left a b = absurd (a refl)
-
-entered_left : (x : Visit) → x ≡ visit.Entered → x ≡ visit.Left → ⊥
-entered_left visit.Unseen a b = cc
-entered_left visit.Entered a b = cc
-entered_left visit.Left a b = cc
-
-unseen_entered : (x : Visit) → x ≡ visit.Unseen → x ≡ visit.Entered → ⊥
-unseen_entered visit.Unseen a b = cc
-unseen_entered visit.Entered a b = cc
-unseen_entered visit.Left a b = cc
-
-unseen_left : {A : Type 0} (x : Visit) → x ≡ visit.Unseen → x ≡ visit.Left → A
-unseen_left visit.Unseen a b = cc
-unseen_left visit.Entered a b = cc
-unseen_left visit.Left a b = cc
 
 module _ (v : Shown) (w t : Contents) (l : ℕ) (i : IsWalkable v w l) (top : Place) (c : Cursor) (at : IsAtPlace v w t l i top c) where
   leads_on : (a : ℕ) (x : Value) (j : ℕ) → Has (both v t (key v top)) a x → end_value v t x ≡ Node j → Leads (sides v.structure) (state_of v w i.log) (key v top) j
@@ -157,7 +141,7 @@ module _ (v : Shown) (w t : Contents) (l : ℕ) (i : IsWalkable v w l) (top : Pl
         entered = λ k m. elim (cases_eq k (key v p)) [ inl q ↦ ap (visit_of v u) q ∙ set.here | inr ne ↦ elim m [ inl q ↦ absurd (ne (sym q)) | inr r ↦ set.others k ne ∙ at.has.entered k r ] ];
         on_stack = λ k m. elim (cases_eq k (key v p)) [ inl q ↦ inl (sym q) | inr ne ↦ inr (at.has.on_stack k (sym (set.others k ne) ∙ m)) ];
         left = λ k m. elim (cases_eq k (key v p)) [ inl q ↦ absurd (o.2 (ap (visit_of v t) (sym q) ∙ at.has.left k m)) | inr ne ↦ set.others k ne ∙ at.has.left k m ];
-        in_order = λ k m. elim (cases_eq k (key v p)) [ inl q ↦ absurd (entered_left (visit_of v u k) (ap (visit_of v u) q ∙ set.here) m) | inr ne ↦ at.has.in_order k (sym (set.others k ne) ∙ m) ];
+        in_order = λ k m. elim (cases_eq k (key v p)) [ inl q ↦ (let z : visit.Entered ≡ visit.Left = sym (ap (visit_of v u) q ∙ set.here) ∙ m in cc) | inr ne ↦ at.has.in_order k (sym (set.others k ne) ∙ m) ];
       } in
       record {
         held = subst (VisitsHeld v) (sym e.7) (held_pushed v t.visits (top ∷ p ∷ []) at.held (at.top_held, (o.0, tt)));
@@ -187,7 +171,7 @@ module _ (v : Shown) (w t : Contents) (l : ℕ) (i : IsWalkable v w l) (top : Pl
         walk = walk_leaves (sides v.structure) s at.has.root K (stack_of v t.visits) at.has.order at.has.walk all;
         entered = λ k m. set.others k (λ q. at.has.walk.once.0 (subst (IsIn (stack_of v t.visits)) q m)) ∙ at.has.entered k (inr m);
         on_stack = λ k m. elim (cases_eq k K) [
-          | inl q ↦ absurd (entered_left (visit_of v u k) m (ap (visit_of v u) q ∙ set.here))
+          | inl q ↦ (let z : visit.Entered ≡ visit.Left = sym m ∙ (ap (visit_of v u) q ∙ set.here) in cc)
           | inr ne ↦ elim (at.has.on_stack k (sym (set.others k ne) ∙ m)) [ inl q ↦ absurd (ne (sym q)) | inr r ↦ r ]
         ];
         left = λ k m. elim (cases_eq k K) [ inl q ↦ ap (visit_of v u) q ∙ set.here | inr ne ↦ elim m [ inl q ↦ absurd (ne (sym q)) | inr r ↦ set.others k ne ∙ at.has.left k r ] ];
@@ -213,15 +197,15 @@ not_turned v w t top (Some c) h n = absurd (n c refl)
 pub root_is : (v : Shown) (w : Contents) (l : ℕ) (i : IsWalkable v w l) (from t : Target) → value_at v from ≡ Node l → IsEndOf v w from t → (ends i.log (Node l) ≡ value_at v t) × (ends i.log (value_at v t) ≡ value_at v t)
 root_is v w l i from t q e = let is = end_is v w i.log from t i.has_log e in (ap (ends i.log) (sym q) ∙ is.0, is.1)
 
+pub has_some : (ks : List ℕ) (k : ℕ) → IsIn ks k → 1 ≤ length ks
+has_some [] k m = absurd m
+has_some (j ∷ ks) k m = omega arith
+
 pub root_room : (v : Shown) (w : Contents) (l : ℕ) (i : IsWalkable v w l) (root : ℕ) → ends i.log (Node l) ≡ Node root → length w.visits < w.visit_room
 root_room v w l i root e =
     let some = has_some i.ks root (i.reached root 0 root e refl) in
     let none = ap (length {A = Place}) i.empty in
     omega (arith, some, none, i.room)
-  where
-    has_some : (ks : List ℕ) (k : ℕ) → IsIn ks k → 1 ≤ length ks
-    has_some [] k m = absurd m
-    has_some (j ∷ ks) k m = omega arith
 
 -- where the walk begins
 pub walked_starts : (v : Shown) (w t : Contents) (l : ℕ) (i : IsWalkable v w l) (root : Place) → IsHeld v root.block root.offset → ends i.log (Node l) ≡ Node (key v root) → ends i.log (Node (key v root)) ≡ Node (key v root)
@@ -236,9 +220,9 @@ walked_starts v w t l i root held from is_end set e pairs =
       order = [];
       walk = walk_starts (sides v.structure) (state_of v w i.log) K is_end;
       entered = λ k m. elim m [ inl q ↦ ap (visit_of v t) (sym q) ∙ set.here | inr n ↦ absurd n ];
-      on_stack = λ k m. elim (cases_eq k K) [ inl q ↦ inl (sym q) | inr ne ↦ absurd (unseen_entered (visit_of v t k) (set.others k ne ∙ i.unseen k) m) ];
+      on_stack = λ k m. elim (cases_eq k K) [ inl q ↦ inl (sym q) | inr ne ↦ (let z : visit.Unseen ≡ visit.Entered = sym (set.others k ne ∙ i.unseen k) ∙ m in cc) ];
       left = λ k m. absurd m;
-      in_order = λ k m. elim (cases_eq k K) [ inl q ↦ absurd (entered_left (visit_of v t k) (ap (visit_of v t) q ∙ set.here) m) | inr ne ↦ unseen_left (visit_of v t k) (set.others k ne ∙ i.unseen k) m ];
+      in_order = λ k m. elim (cases_eq k K) [ inl q ↦ (let z : visit.Entered ≡ visit.Left = sym (ap (visit_of v t) q ∙ set.here) ∙ m in cc) | inr ne ↦ (let z : visit.Unseen ≡ visit.Left = sym (set.others k ne ∙ i.unseen k) ∙ m in cc) ];
     } in
     record {
       held = subst (VisitsHeld v) (sym only) (held, tt);
@@ -258,7 +242,7 @@ atom_walked v w l i c e = record {
   reached = λ k m. absurd m;
   done = λ root n k q r. no_node root (sym e ∙ q);
   left = λ k m. absurd m;
-  in_order = λ k m. unseen_left (visit_of v w k) (i.unseen k) m;
+  in_order = λ k m. (let z : visit.Unseen ≡ visit.Left = sym (i.unseen k) ∙ m in cc);
   unseen = λ k m. i.unseen k;
 }
   where
@@ -284,14 +268,11 @@ walked_off v w t u l i c h e none empty =
       ordered = has.walk.ordered;
       below = subst (Below has.order) (sym has.from) (done 0 has.root refl);
       reached = λ k m. (let r = has.walk.reached k (inl m) in (has.root, r.0, has.from, r.1));
-      done = λ root n k q r. done n k (subst (λ z. ReachedIn (sides v.structure) s z n k) (one_node root has.root (sym q ∙ has.from)) r);
+      done = λ root n k q r. done n k (subst (λ z. ReachedIn (sides v.structure) s z n k) (node_one root has.root (sym q ∙ has.from)) r);
       left = has.left;
       in_order = has.in_order;
       unseen = λ k m. is_unseen (visit_of v u k) (λ q. m (has.in_order k q)) (λ q. absurd (has.on_stack k q));
     }
-  where
-    one_node : (j k : ℕ) → Node j ≡ Node k → j ≡ k
-    one_node j k q = cc
 
 -- with each turn less is left to visit
 pub turn_falls : (v : Shown) → IsShown v → (t u x : Contents) (top : Place) → IsHeld v top.block top.offset → visit_of v u (key v top) ≡ visit.Entered → u ≡ record t { visits = u.visits } → t.visits ≡ u.visits ++ top ∷ []

@@ -10,7 +10,7 @@ use Rattle.patr_scratch.specs.declared.Target.{Target}
 use Rattle.patr_scratch.specs.declared.Visit.{Visit}
 use Rattle.patr_scratch.specs.Contents.{Link, PlaceMarks, Contents, marks, after, from_cell}
 use Rattle.patr_unify.specs.Reading.{key, value_at, forward_of, arcs_at, IsEndOf}
-use Rattle.patr_unify.specs.Walking.{end_value, AllEnd, visit_of, HasVisit, IsOther, IsFound, IsFoundAt, IsPassed}
+use Rattle.patr_unify.specs.Walking.{end_value, AllEnd, visit_of, AllButRest, HasVisit, IsFound, IsFoundAt, IsPassed}
 use Rattle.patr_unify.proofs.Keys.{key_marks}
 use Rattle.patr_unify.proofs.Outcomes.{follow_add}
 
@@ -30,9 +30,10 @@ end_found v w from t all e =
 pub visit_is : (v : Shown) (w : Contents) → IsShown v → (p : Place) (number : ℕ) (visit : Visit) → IsHeld v p.block p.offset → number ≡ number_of v p.block p.offset → visit ≡ (marks w p.side number).visit → visit ≡ visit_of v w (key v p)
 visit_is v w s p number visit h e g = g ∙ ap (λ (m : PlaceMarks). m.visit) (key_marks v w s p number h e)
 
-pub passed_on : (v : Shown) (w : Contents) (passed : Visit) (es : Arcs) (e : Arc) (rest : Arcs) → IsPassed v w passed es (e ∷ rest) → HasVisit v w passed (end_value v w e.to) → IsPassed v w passed es rest
-passed_on v w passed es e rest i h a x n = elim (i a x n) [
-  | inl m ↦ elim m [ inl q ↦ inr (subst (λ y. HasVisit v w passed (end_value v w y)) q.1 h) | inr r ↦ inl r ]
+-- one arc less is left
+pub one_less : (P : Value → Type 0) (es : Arcs) (e : Arc) (rest : Arcs) → AllButRest P es (e ∷ rest) → P e.to → AllButRest P es rest
+one_less P es e rest i h a x n = elim (i a x n) [
+  | inl m ↦ elim m [ inl q ↦ inr (subst P q.1 h) | inr r ↦ inl r ]
   | inr d ↦ inr d
 ]
 
@@ -41,8 +42,9 @@ pub none_found : (v : Shown) (w : Contents) (passed : Visit) (x : Value) (o : Op
 none_found v w passed x None f n = f
 none_found v w passed x (Some p) f n = absurd (n p refl)
 
-pub passed_all : (v : Shown) (w : Contents) (passed : Visit) (es : Arcs) → IsPassed v w passed es [] → IsFoundAt v w passed es None
-passed_all v w passed es i a x h = elim (i a x h) [ inl n ↦ absurd n | inr d ↦ d ]
+-- none is left
+pub none_left : (P : Value → Type 0) (es : Arcs) → AllButRest P es [] → (a : ℕ) (x : Value) → Has es a x → P x
+none_left P es i a x h = elim (i a x h) [ inl n ↦ absurd n | inr d ↦ d ]
 
 -- an arc that is left is an arc
 pub drop_has : (es : Arcs) (i a : ℕ) (x : Value) → Has (drop i es) a x → Has es a x
@@ -65,4 +67,4 @@ after_has v ls (Some c) a x h = from ls h
 -- no cell is left
 pub links_passed : (v : Shown) (w : Contents) (passed : Visit) (es : Arcs) (ls : List Link) (next : Option ℕ) → IsPassed v w passed es (arcs_at v (after ls next)) → ((cell : ℕ) → next ≡ Some cell → ⊥) → IsFoundAt v w passed es None
 links_passed v w passed es ls (Some cell) i n = absurd (n cell refl)
-links_passed v w passed es ls None i n = passed_all v w passed es i
+links_passed v w passed es ls None i n = none_left (λ x. HasVisit v w passed (end_value v w x)) es i

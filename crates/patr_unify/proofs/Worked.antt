@@ -5,8 +5,7 @@ use Rattle.std.proofs.lemmas.List.{get_or_append_left, take_all}
 use Rattle.patr_model.specs.Structure.{Value, Atom, Node, Arc, Arcs, Structure, IsBelow, IsValue, arcs_of}
 use Rattle.patr_marks.specs.Machine.{Has, IsIn, NoRepeats, own, total}
 use Rattle.patr_marks.specs.Quotient.{Below}
-use Rattle.patr_marks.specs.Settled.{IsCopy, IsSparing, base, through}
-use Rattle.patr_marks.specs.Settled.{IsFinal, follow}
+use Rattle.patr_marks.specs.Settled.{IsCopy, IsSparing, base, through, IsFinal, follow}
 use Rattle.patr_marks.specs.Sides.{IsSide, shifted, sides}
 use Rattle.patr_marks.proofs.Copy.{base_left, base_shift}
 use Rattle.patr_marks.proofs.Sides.{below_or_behind, own_left, own_right}
@@ -28,7 +27,7 @@ use Rattle.patr_unify.specs.Deciding.{IsEndOfLeft}
 use Rattle.patr_unify.specs.Merging.{both}
 use Rattle.patr_unify.specs.Reading.{AreHeld, LinksHeld, OptionIsHeld, added_of, behind, forward_of, key, marks_in, option_at, slot_of, value_on}
 use Rattle.patr_unify.specs.Reading as reading
-use Rattle.patr_unify.specs.Walking.{AllEnd, bare, end_value, visit_of}
+use Rattle.patr_unify.specs.Walking.{AllEnd, IsStill, bare, end_value, visit_of}
 use Rattle.patr_unify.proofs.Outcomes.{follow_ext}
 
 -- the places of new nodes
@@ -73,6 +72,18 @@ pub record SameArcs (w : Contents) (t : Contents) : Type 0 where
 -- what stays while a copy is made
 abbrev pub IsWorked : Contents → Contents → Type 0
 IsWorked w t = SameArcs (bare w) (bare t)
+
+pub worked_then : (w t u : Contents) → IsWorked w t → IsWorked t u → IsWorked w u
+worked_then w t u h k = record {
+  places = k.places ∙ h.places;
+  pair_room = k.pair_room ∙ h.pair_room;
+  visit_room = k.visit_room ∙ h.visit_room;
+  forward = λ j. k.forward j ∙ h.forward j;
+  added = λ j. k.added j ∙ h.added j;
+}
+
+pub still_worked : (w t : Contents) → IsStill w t → IsWorked w t
+still_worked w t h = record { places = h.places; pair_room = h.pair_room; visit_room = h.visit_room; forward = h.forward; added = h.added }
 
 module _ (v : Shown) (w t : Contents) (h : IsWorked w t) where
   pub worked_forward : (k : ℕ) → forward_of v t k ≡ forward_of v w k

@@ -1,11 +1,10 @@
 -- What is done with one pair.
 use Rattle.std.specs.Prelude.{◌≡◌, ◌≢◌, ℕ, suc, ◌+◌, ◌*◌, ◌<◌, ◌≤◌, ◌⊎◌, Bool, true, false, cond, zero, Some, None, List, [], ◌∷◌, ◌++◌, length}
 use Rattle.patr_model.specs.Structure.{Value, Node}
-use Rattle.patr_marks.specs.Machine.{Forward, Pair, State, Has, IsLog, Ends, IsIn, NoRepeats, IsMerge, IsBind, IsSkip, IsClash, own, weight, left_over, total, degree}
+use Rattle.patr_marks.specs.Machine.{Forward, Pair, State, Has, IsLog, Ends, IsIn, NoRepeats, IsMerge, IsBind, IsSkip, IsClash, own, weight, left_over, total, degree, lookup}
 use Rattle.patr_marks.specs.Sides.{sides, IsSide}
 use Rattle.patr_marks.specs.Run.{IsRun}
 use Rattle.patr_unify.specs.Following.{is_some}
-use Rattle.patr_marks.specs.Machine.{lookup}
 use Rattle.patr_arena.specs.Shown.{Shown, number_of}
 use Rattle.patr_scratch.specs.declared.Place.{Place}
 use Rattle.patr_scratch.specs.declared.Target.{Target}

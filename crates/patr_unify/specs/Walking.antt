@@ -75,9 +75,13 @@ abbrev pub HasArcAt : Shown → Contents → ℕ → Cursor → Type 0
 HasArcAt v w k (cursor.Own i) = Unit {0}
 HasArcAt v w k (cursor.Added c) = HasCell (marks_of v w k).added c
 
+-- each of the arcs is one of the rest, or has such a target
+abbrev pub AllButRest : (Value → Type 0) → Arcs → Arcs → Type 0
+AllButRest P es rest = (a : ℕ) (x : Value) → Has es a x → Has rest a x ⊎ P x
+
 -- each of the arcs is one of the rest, or leads to an end that is passed over
 abbrev pub IsPassed : Shown → Contents → Visit → Arcs → Arcs → Type 0
-IsPassed v w passed es rest = (a : ℕ) (x : Value) → Has es a x → Has rest a x ⊎ HasVisit v w passed (end_value v w x)
+IsPassed v w passed es rest = AllButRest (λ x. HasVisit v w passed (end_value v w x)) es rest
 
 -- each arc of the place before the cursor leads to an end that is passed over
 pub record IsPaused (v : Shown) (w : Contents) (passed : Visit) (k : ℕ) (c : Cursor) : Type 0 where

@@ -3,13 +3,14 @@ use Rattle.patr_marks.specs.Machine.{own}
 use Rattle.patr_marks.specs.Sides.{sides}
 use Rattle.patr_arena.specs.Shown.{value_of}
 use Rattle.patr_arena.proofs.Addresses.{value_below}
-use Rattle.patr_unify.specs.Copying.{IsEndRef}
+use Rattle.patr_unify.specs.Copying.{IsEndRef, LeadsAsBefore}
 use Rattle.patr_unify.specs.Reading.{key, value_at, value_on}
-use Rattle.patr_unify.specs.Walking.{end_value}
-use Rattle.patr_unify.proofs.Keeping.{HasLed, led_all, led_on, leads_before, leads_elsewhere}
+use Rattle.patr_unify.specs.Walking.{AllButRest, end_value}
+use Rattle.patr_unify.proofs.Keeping.{leads_before, leads_elsewhere}
 use Rattle.patr_unify.proofs.Keys.{target_value}
 use Rattle.patr_unify.proofs.Loops.{blank, own_arc, own_end}
 use Rattle.patr_unify.proofs.Takes.{arc_of}
+use Rattle.patr_unify.proofs.Walks.{none_left, one_less}
 use Rattle.patr_unify.proofs.keep.leads_as_before.Goals as goal
 
 pub resolve-before-requires : goal.resolve-before-requires
@@ -47,7 +48,7 @@ loop-feature-preserved g c =
     let all = own (sides v.structure) (key v p) in
     let here = ap (value_on p.side (length v.structure)) (sym c.resolve-before.ensures.same) in
     let end = subst (λ x. IsEndRef v w (end_value v w x) c.end_ref-now.result) (ap (value_at v) c.target_on.ensures ∙ (target_value v p.side x ∙ sym here)) c.end_ref-now.ensures.same in
-    led_on v w all e (drop (i + 1) all) (subst (HasLed v w all) a.next c.loop-feature.invariant)
+    one_less (LeadsAsBefore v w) all e (drop (i + 1) all) (subst (AllButRest (LeadsAsBefore v w) all) a.next c.loop-feature.invariant)
     (leads_before v w p.side e.to (value_of v x) c.end_ref-now.result (value_below v s x c.resolve-before.ensures.held) here end (c.is_old.ensures.same c.if-not-is_old.false))
 
 pub returns : goal.returns
@@ -56,5 +57,5 @@ returns g c =
     let w = c.args.scratch.now in
     let items = c.arcs-feature-items in
     let all = own (sides v.structure) (key v c.args.place) in
-    led_all v w all (subst (HasLed v w all)
+    none_left (LeadsAsBefore v w) all (subst (AllButRest (LeadsAsBefore v w) all)
     (own_end v (g.met.N.Nodes.lawful c.args.nodes.now) w c.args.place c.requires.place c.address-at.result c.address-at.ensures items.result.now items.ensures.held items.ensures.same c.loop-feature.feature-index c.loop-feature-test.false) c.loop-feature.invariant)

@@ -1,7 +1,6 @@
 use Rattle.std.proofs.Common.{◌+◌, ◌≤◌, length, sym, subst}
 use Rattle.patr_marks.specs.Machine.{matches}
-use Rattle.patr_scratch.specs.Contents.{Link}
-use Rattle.patr_scratch.specs.Contents.{PlaceMarks, after, marks}
+use Rattle.patr_scratch.specs.Contents.{Link, PlaceMarks, after, marks}
 use Rattle.patr_unify.specs.Merging.{both}
 use Rattle.patr_unify.specs.Reading.{arcs_at, key}
 use Rattle.patr_unify.proofs.Keys.{key_marks}

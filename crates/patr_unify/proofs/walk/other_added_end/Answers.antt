@@ -5,9 +5,9 @@ use Rattle.patr_marks.proofs.Lists.{has_right}
 use Rattle.patr_scratch.specs.Contents.{EndsOrHas, Link, after}
 use Rattle.patr_unify.specs.Merging.{both}
 use Rattle.patr_unify.specs.Reading.{added_of, arcs_at, key, marks_of, value_at}
-use Rattle.patr_unify.specs.Walking.{IsPassed}
+use Rattle.patr_unify.specs.Walking.{HasVisit, IsPassed, end_value}
 use Rattle.patr_unify.proofs.Loops.{is_cell, link_of}
-use Rattle.patr_unify.proofs.Walks.{passed_on, none_found, links_passed}
+use Rattle.patr_unify.proofs.Walks.{none_found, one_less, links_passed}
 use Rattle.patr_unify.proofs.walk.other_added_end.Goals as goal
 
 pub arc_at-arc-requires : goal.arc_at-arc-requires
@@ -41,7 +41,7 @@ loop-next-preserved g c =
     let link = link_of v w (g.met.N.Nodes.lawful c.args.nodes.now) c.requires.held c.args.place c.requires.place c.loop-next.next c.in-Some.cell r c.loop-next.invariant.cell c.in-Some.is c.arc_at-arc.ensures in
     record {
       cell = link.left;
-      passed = passed_on v w c.args.passed (both v w k) (record { attribute = r.attribute; to = value_at v r.to }) (arcs_at v (after (marks_of v w k).added r.next)) (subst (IsPassed v w c.args.passed (both v w k)) link.arcs c.loop-next.invariant.passed)
+      passed = one_less (λ x. HasVisit v w c.args.passed (end_value v w x)) (both v w k) (record { attribute = r.attribute; to = value_at v r.to }) (arcs_at v (after (marks_of v w k).added r.next)) (subst (IsPassed v w c.args.passed (both v w k)) link.arcs c.loop-next.invariant.passed)
           (none_found v w c.args.passed (value_at v r.to) c.other_end.result c.other_end.ensures c.in_default-other_end.not-Some);
     }
 

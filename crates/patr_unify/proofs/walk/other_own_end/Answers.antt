@@ -7,7 +7,7 @@ use Rattle.patr_unify.specs.Reading.{added_of, key}
 use Rattle.patr_unify.specs.Walking.{HasVisit, IsOther, IsPassed, end_value}
 use Rattle.patr_unify.proofs.Loops.{blank, own_arc, own_end}
 use Rattle.patr_unify.proofs.Takes.{arc_of}
-use Rattle.patr_unify.proofs.Walks.{passed_on, none_found}
+use Rattle.patr_unify.proofs.Walks.{none_found, one_less}
 use Rattle.patr_unify.proofs.walk.other_own_end.Goals as goal
 
 pub loop-index-init : goal.loop-index-init
@@ -39,7 +39,7 @@ loop-index-preserved g c =
     let arcs = c.arcs-arcs in
     let i = c.loop-index.index in
     let a = own_arc v (g.met.N.Nodes.lawful c.args.nodes.now) w p c.requires.place c.address.result c.address.ensures arcs.result.now arcs.ensures.held arcs.ensures.same i c.loop-index-test.true in
-    passed_on v w c.args.passed (both v w k) (arc_of v p (get_or arcs.result.now i blank)) (drop (i + 1) (own (sides v.structure) k) ++ added_of v w k) (subst (λ es. IsPassed v w c.args.passed (both v w k) (es ++ added_of v w k)) a.next c.loop-index.invariant)
+    one_less (λ x. HasVisit v w c.args.passed (end_value v w x)) (both v w k) (arc_of v p (get_or arcs.result.now i blank)) (drop (i + 1) (own (sides v.structure) k) ++ added_of v w k) (subst (λ es. IsPassed v w c.args.passed (both v w k) (es ++ added_of v w k)) a.next c.loop-index.invariant)
     (subst (λ (x : Value). HasVisit v w c.args.passed (end_value v w x)) c.own_target-target.ensures.same (none_found v w c.args.passed _ c.other_end.result c.other_end.ensures c.in_default.not-Some))
 
 pub returns : goal.returns
