@@ -34,7 +34,7 @@ pub record IsOwnArc (v : Shown) (w : Contents) (p : Place) (i : ℕ) (f : Featur
 
 module _ (v : Shown) (s : IsShown v) (w : Contents) (p : Place) (there : IsHeld v p.block p.offset) (at : Addr) (is : at ≡ record { block = p.block; offset = p.offset }) (fs : List Feature)
     (held : AllHeld v at.block fs) (same : arcs_from v at.block fs ≡ own v.structure (number_of v at.block at.offset)) where
-  arcs_are : arcs_from v p.block fs ≡ own v.structure (number_of v p.block p.offset)
+  pub arcs_are : arcs_from v p.block fs ≡ own v.structure (number_of v p.block p.offset)
   arcs_are = subst (λ (a : Addr). arcs_from v a.block fs ≡ own v.structure (number_of v a.block a.offset)) is same
 
   pub own_arc : (i : ℕ) → i < length fs → IsOwnArc v w p i (get_or fs i blank)

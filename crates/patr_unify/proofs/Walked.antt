@@ -240,14 +240,11 @@ atom_walked v w l i c e = record {
   ordered = tt;
   below = subst (Below []) (sym e) tt;
   reached = λ k m. absurd m;
-  done = λ root n k q r. no_node root (sym e ∙ q);
+  done = λ root n k q r. (let z : Atom c ≡ Node root = sym e ∙ q in cc);
   left = λ k m. absurd m;
   in_order = λ k m. (let z : visit.Unseen ≡ visit.Left = sym (i.unseen k) ∙ m in cc);
   unseen = λ k m. i.unseen k;
 }
-  where
-    no_node : {A : Type 0} (k : ℕ) → Atom c ≡ Node k → A
-    no_node k q = cc
 
 -- nothing was popped
 pub none_popped : (t u : Contents) (o : Option Place) → MatchOption o ((t.visits ≡ []) × (u.visits ≡ [])) (λ p. t.visits ≡ u.visits ++ p ∷ []) → ((p : Place) → o ≡ Some p → ⊥) → (t.visits ≡ []) × (u.visits ≡ [])

@@ -2,9 +2,11 @@ use Rattle.std.proofs.Common.{rules, inl, inr, refl, sym, ap, subst}
 use Rattle.patr_arena.specs.Shown.{number_of}
 use Rattle.patr_scratch.specs.declared.Target.TheVariants as target
 use Rattle.patr_unify.specs.Reading.{key, value_at}
-use Rattle.patr_unify.specs.Walking.{HasWalked}
+use Rattle.patr_unify.specs.Walking.{HasWalked, IsAtPlace, IsWalkable}
 use Rattle.patr_unify.proofs.Outcomes.{log_ends}
 use Rattle.patr_unify.proofs.Walked.{at_place, atom_walked, entered_on, has_room, led_back, left_on, none_popped, not_turned, root_is, root_room, still_ends, still_held, turn_falls, walked_off, walked_starts}
+use Rattle.patr_unify.proofs.walk.walk.Given.{Over}
+use Rattle.patr_unify.proofs.walk.walk.Goals.{In-Some}
 use Rattle.patr_unify.proofs.walk.walk.Goals as goal
 
 pub end_of-requires-clause-ending : goal.end_of-requires-clause-ending
@@ -39,40 +41,32 @@ loop-top-init g c =
       room = search rules;
     }
 
+-- the walk at the place that was popped
+at_facts : (g : Over) (c : In-Some g) (i : IsWalkable (g.N.Nodes.shown c.args.nodes.now) c.args.scratch.now (number_of (g.N.Nodes.shown c.args.nodes.now) c.args.left.block c.args.left.offset))
+    → IsAtPlace (g.N.Nodes.shown c.args.nodes.now) c.args.scratch.now c.pop_visit.new.self (number_of (g.N.Nodes.shown c.args.nodes.now) c.args.left.block c.args.left.offset) i c.in-Some.top c.loop-top.from
+at_facts g c i = at_place (g.N.Nodes.shown c.args.nodes.now) c.args.scratch.now c.loop-top.scratch c.pop_visit.new.self _ i c.in-Some.top c.loop-top.from (c.loop-top.invariant.walked i) c.in-Some.ensures.rest c.in-Some.ensures.last
+
 pub go_on-requires : goal.go_on-requires
 go_on-requires g c =
     let v = g.N.Nodes.shown c.args.nodes.now in
     let w = c.args.scratch.now in
     let t = c.pop_visit.new.self in
-    let l = number_of v c.args.left.block c.args.left.offset in
     let i = c.requires.start in
-    let at = at_place v w c.loop-top.scratch t l i c.in-Some.top c.loop-top.from (c.loop-top.invariant.walked i) c.in-Some.ensures.rest c.in-Some.ensures.last in
-    record {
-      top = at.top_held;
-      held = still_held v w t at.has.still i.held;
-      ending = still_ends v w t l i at.has.still;
-      room = has_room v w t l i c.in-Some.top c.loop-top.from at;
-      paused = at.paused.0;
-    }
+    let at = at_facts g (goal.at.go_on-requires g c).In-Some i in
+    record { top = at.top_held; held = still_held v w t at.has.still i.held; ending = still_ends v w t _ i at.has.still; room = has_room v w t _ i c.in-Some.top c.loop-top.from at; paused = at.paused.0 }
 
 pub returns-in_default-go_on-clause-walked : goal.returns-in_default-go_on-clause-walked
 returns-in_default-go_on-clause-walked g c i =
     let v = g.N.Nodes.shown c.args.nodes.now in
-    let w = c.args.scratch.now in
     let t = c.pop_visit.new.self in
-    let l = number_of v c.args.left.block c.args.left.offset in
-    let at = at_place v w c.loop-top.scratch t l i c.in-Some.top c.loop-top.from (c.loop-top.invariant.walked i) c.in-Some.ensures.rest c.in-Some.ensures.last in
-    led_back v w t l i c.in-Some.top c.loop-top.from at (not_turned v t c.go_on.new.scratch c.in-Some.top c.go_on.result c.go_on.ensures.turned c.in_default-go_on.not-Some)
+    led_back v c.args.scratch.now t _ i c.in-Some.top c.loop-top.from (at_facts g (goal.at.returns-in_default-go_on-clause-walked g c).In-Some i)
+    (not_turned v t c.go_on.new.scratch c.in-Some.top c.go_on.result c.go_on.ensures.turned c.in_default-go_on.not-Some)
 
 pub loop-top-smaller : goal.loop-top-smaller
 loop-top-smaller g c =
     let v = g.N.Nodes.shown c.args.nodes.now in
-    let w = c.args.scratch.now in
-    let t = c.pop_visit.new.self in
-    let l = number_of v c.args.left.block c.args.left.offset in
-    let i = c.requires.start in
-    let at = at_place v w c.loop-top.scratch t l i c.in-Some.top c.loop-top.from (c.loop-top.invariant.walked i) c.in-Some.ensures.rest c.in-Some.ensures.last in
-    turn_falls v (g.met.N.Nodes.lawful c.args.nodes.now) c.loop-top.scratch t c.go_on.new.scratch c.in-Some.top at.top_held (at.has.entered (key v c.in-Some.top) (inl refl)) c.in-Some.ensures.rest c.in-Some.ensures.last
+    let at = at_facts g (goal.at.loop-top-smaller g c).In-Some c.requires.start in
+    turn_falls v (g.met.N.Nodes.lawful c.args.nodes.now) c.loop-top.scratch c.pop_visit.new.self c.go_on.new.scratch c.in-Some.top at.top_held (at.has.entered (key v c.in-Some.top) (inl refl)) c.in-Some.ensures.rest c.in-Some.ensures.last
     c.in-Some-go_on.next c.in-Some-go_on.ensures.turned
 
 pub loop-top-preserved : goal.loop-top-preserved
@@ -80,13 +74,12 @@ loop-top-preserved g c =
     let v = g.N.Nodes.shown c.args.nodes.now in
     let w = c.args.scratch.now in
     let t = c.pop_visit.new.self in
-    let l = number_of v c.args.left.block c.args.left.offset in
     record {
       walked = λ i.
-          (let at = at_place v w c.loop-top.scratch t l i c.in-Some.top c.loop-top.from (c.loop-top.invariant.walked i) c.in-Some.ensures.rest c.in-Some.ensures.last in
+          (let at = at_facts g (goal.at.loop-top-preserved g c).In-Some i in
           elim c.in-Some-go_on.ensures.turned [
-            | inl left ↦ left_on v w t l i c.in-Some.top c.loop-top.from at c.go_on.new.scratch c.in-Some-go_on.next left
-            | inr entered ↦ subst (HasWalked v w c.go_on.new.scratch l i) (sym entered.1) (entered_on v w t l i c.in-Some.top c.loop-top.from at c.go_on.new.scratch entered.0)
+            | inl left ↦ left_on v w t _ i c.in-Some.top c.loop-top.from at c.go_on.new.scratch c.in-Some-go_on.next left
+            | inr entered ↦ subst (HasWalked v w c.go_on.new.scratch _ i) (sym entered.1) (entered_on v w t _ i c.in-Some.top c.loop-top.from at c.go_on.new.scratch entered.0)
           ]);
       room = search rules;
     }
