@@ -10,6 +10,7 @@ use Rattle.patr_arena.specs.declared.value.Addr.{Addr}
 use Rattle.patr_arena.specs.declared.value.Ref.{Ref}
 use Rattle.patr_arena.specs.declared.value.Ref.TheVariants as ref
 use Rattle.patr_arena.proofs.Addresses.{address_tells}
+use Rattle.patr_arena.proofs.Showing.{held_below}
 use Rattle.patr_scratch.specs.declared.Copied.{Copied}
 use Rattle.patr_scratch.specs.declared.Place.{Place}
 use Rattle.patr_scratch.specs.declared.Side.{Side}
@@ -91,5 +92,8 @@ free_seen None visit.Left false e y n = refl
 free_seen (Some x) state b e y n = cc
 
 -- the left side's marks at a number
-pub left_marks : (v : Shown) (w : Contents) (k : ℕ) → k < length v.structure → marks w side.Left k ≡ marks_of v w k
-left_marks v w k h = ap (marks_in w) (sym (ap (λ b. cond b (2 * k) (2 * (k - length v.structure) + 1)) (lt_true k (length v.structure) h)))
+pub left_marks : (v : Shown) (w : Contents) → IsShown v → (p : Place) (number : ℕ) → IsHeld v p.block p.offset → number ≡ number_of v p.block p.offset → marks w side.Left number ≡ marks_of v w (number_of v p.block p.offset)
+left_marks v w s p number h e =
+    let n = length v.structure in
+    let k = number_of v p.block p.offset in
+    ap (λ j. marks w side.Left j) e ∙ ap (marks_in w) (sym (ap (λ b. cond b (2 * k) (2 * (k - n) + 1)) (lt_true k n (held_below v s p.block p.offset h))))

@@ -1,4 +1,3 @@
-pub mod Bare
 pub mod Follow
 pub mod Keys
 pub mod Merges
@@ -16,10 +15,8 @@ pub mod Deciding
 pub mod Reaching
 pub mod Keeping
 pub mod Gathering
-pub mod Copies
 pub mod Building
 pub mod Making
-pub mod Turning
 pub mod Worked
 pub mod CopyLoop
 pub mod Counting

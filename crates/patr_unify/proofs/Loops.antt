@@ -1,25 +1,26 @@
--- What a loop over the arcs of a place knows of the next one.
-use Rattle.std.proofs.Common.{◌≡◌, ℕ, ◌+◌, ◌<◌, ◌≤◌, inl, Option, Some, None, List, [], ◌∷◌, length, drop, get_or, refl, sym, ap, ◌∙◌, subst}
+-- What a loop over the arcs of a place knows of the next one, and whether there is one.
+use Rattle.std.proofs.Common.{◌≡◌, ℕ, ◌+◌, ◌<◌, ◌≤◌, inl, Option, Some, None, List, [], ◌∷◌, length, drop, get_or, refl, sym, ap, ◌∙◌, subst, ◌++◌, arith}
 use Rattle.std.proofs.lemmas.List.{get_or_default}
 use Rattle.patr_model.specs.Structure.{Arcs, Value}
 use Rattle.patr_marks.specs.Machine.{Has, own}
-use Rattle.patr_marks.specs.Sides.{sides}
+use Rattle.patr_marks.specs.Sides.{sides, shift}
 use Rattle.patr_marks.proofs.Lists.{has_left, has_right}
 use Rattle.patr_arena.specs.declared.value.Addr.{Addr}
 use Rattle.patr_arena.specs.declared.value.Feature.{Feature}
 use Rattle.patr_arena.specs.declared.value.Ref.TheVariants as ref
-use Rattle.patr_arena.specs.Shown.{AllHeld, IsHeld, IsShown, RefIsHeld, Shown, arcs_from, number_of}
+use Rattle.patr_arena.specs.Shown.{AllHeld, IsHeld, IsShown, RefIsHeld, Shown, arcs_from, number_of, ref_of}
 use Rattle.patr_scratch.specs.declared.Added.{Added}
 use Rattle.patr_scratch.specs.declared.Place.{Place}
 use Rattle.patr_scratch.specs.declared.Side.{Side}
 use Rattle.patr_scratch.specs.Contents.{Contents, EndsOrHas, HasCell, HasPlace, IsCell, Link, PlaceMarks, after, first_cell, marks, slot}
 use Rattle.patr_unify.specs.Merging.{both}
-use Rattle.patr_unify.specs.Reading.{AreHeld, LinksHeld, TargetIsHeld, added_of, arcs_at, key, marks_of, value_at}
-use Rattle.patr_unify.proofs.Keys.{after_first, first_has, key_marks}
+use Rattle.patr_unify.specs.Reading.{AreHeld, LinksHeld, TargetIsHeld, added_of, arcs_at, key, marks_of, value_at, arcs_on}
+use Rattle.patr_unify.proofs.Keys.{after_first, first_has, key_marks, own_key}
 use Rattle.patr_unify.proofs.Merges.{place_room}
 use Rattle.patr_unify.proofs.Pushes.{after_held, next_arc}
 use Rattle.patr_unify.proofs.Takes.{all_dropped, arc_of, feature_is_held, own_drop}
 use Rattle.patr_unify.proofs.Walks.{after_has, drop_has}
+use Rattle.patr_scratch.specs.declared.Side.TheVariants as side
 
 -- what is read past the end
 abbrev pub blank : Feature
@@ -107,3 +108,40 @@ module _ (v : Shown) (w : Contents) (s : IsShown v) (held : AreHeld v w) (p : Pl
       let ls = (marks_of v w (key v p)).added in
       let q : first ≡ first_cell ls = e ∙ ap (λ (m : PlaceMarks). first_cell m.added) marks_same in
       (subst (EndsOrHas ls) (sym q) (first_has ls), ap (λ o. arcs_at v (after ls o)) q ∙ ap (arcs_at v) (after_first ls))
+
+first_on : (v : Shown) (b : ℕ) (s : Side) (n : ℕ) (fs : List Feature) → 0 < length fs → (a : ℕ) × (x : Value) × Has (arcs_on s n (arcs_from v b fs)) a x
+first_on v b s n [] h = absurd (omega (arith, h))
+first_on v b side.Left n (f ∷ fs) h = (f.attribute.0, ref_of v b f.to, inl (refl, refl))
+first_on v b side.Right n (f ∷ fs) h = (f.attribute.0, shift n (ref_of v b f.to), inl (refl, refl))
+
+none_on : (v : Shown) (b : ℕ) (s : Side) (n : ℕ) (fs : List Feature) → length fs ≤ 0 → arcs_on s n (arcs_from v b fs) ≡ []
+none_on v b side.Left n [] h = refl
+none_on v b side.Right n [] h = refl
+none_on v b s n (f ∷ fs) h = absurd (omega (arith, h))
+
+pub own_has : (v : Shown) (w : Contents) → IsShown v → (p : Place) (fs : List Feature) → IsHeld v p.block p.offset → arcs_from v p.block fs ≡ own v.structure (number_of v p.block p.offset) → 0 < length fs
+    → (a : ℕ) × (x : Value) × Has (both v w (key v p)) a x
+own_has v w s p fs h e l =
+    let r = first_on v p.block p.side (length v.structure) fs l in
+    let is : arcs_on p.side (length v.structure) (arcs_from v p.block fs) ≡ own (sides v.structure) (key v p) = ap (arcs_on p.side (length v.structure)) e ∙ sym (own_key v s p h) in
+    (r.0, r.1, has_left (own (sides v.structure) (key v p)) (added_of v w (key v p)) r.0 r.1 (subst (λ es. Has es r.0 r.1) is r.2))
+
+pub added_has : (v : Shown) (w : Contents) → IsShown v → (p : Place) (number c : ℕ) → IsHeld v p.block p.offset → number ≡ number_of v p.block p.offset → Some c ≡ first_cell (marks w p.side number).added
+    → (a : ℕ) × (x : Value) × Has (both v w (key v p)) a x
+added_has v w s p number c h e q =
+    let r = first (marks_of v w (key v p)).added (q ∙ ap (λ (m : PlaceMarks). first_cell m.added) (key_marks v w s p number h e)) in
+    (r.0, r.1, has_right (own (sides v.structure) (key v p)) (added_of v w (key v p)) r.0 r.1 r.2)
+  where
+    first : (ls : List Link) → Some c ≡ first_cell ls → (a : ℕ) × (x : Value) × Has (arcs_at v ls) a x
+    first [] q = cc
+    first (l ∷ ls) q = (l.attribute, value_at v l.to, inl (refl, refl))
+
+pub both_bare : (v : Shown) (w : Contents) → IsShown v → (p : Place) (number : ℕ) (fs : List Feature) → IsHeld v p.block p.offset → arcs_from v p.block fs ≡ own v.structure (number_of v p.block p.offset) → length fs ≤ 0
+    → number ≡ number_of v p.block p.offset → None ≡ first_cell (marks w p.side number).added → both v w (key v p) ≡ []
+both_bare v w s p number fs h e l n q =
+    let mine : own (sides v.structure) (key v p) ≡ [] = own_key v s p h ∙ (ap (arcs_on p.side (length v.structure)) (sym e) ∙ none_on v p.block p.side (length v.structure) fs l) in
+    ap (λ es. es ++ added_of v w (key v p)) mine ∙ none (marks_of v w (key v p)).added (q ∙ ap (λ (m : PlaceMarks). first_cell m.added) (key_marks v w s p number h n))
+  where
+    none : (ls : List Link) → None ≡ first_cell ls → arcs_at v ls ≡ []
+    none [] q = refl
+    none (l ∷ ls) q = cc

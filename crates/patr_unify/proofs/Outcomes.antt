@@ -264,17 +264,11 @@ bind_step v w log a b p c s held i h bare e eA =
       )),
     )
 
-pub clash_atoms : (v : Shown) (w : Contents) (log : List Forward) (a b : Target) (c d : ℕ) → Ends (before v w log a b) (pair_of v a b) (Atom c) (Atom d) → c ≢ d → Outcome v w w log a b false
-clash_atoms v w log a b c d e n = record { popped = refl; clash = inl (c, d, e, n) }
-
-pub clash_place : (v : Shown) (w t : Contents) (log : List Forward) (a b : Target) (A c : ℕ) → Ends (before v w log a b) (pair_of v a b) (Node A) (Atom c) → ((x : ℕ) × (y : Value) × Has (both v w A) x y) → Outcome v w t log a b false
-clash_place v w t log a b A c e h = record { popped = refl; clash = inr (A, c, h.0, h.1, e, h.2) }
-
 -- what a bind comes to
 pub bind_outcome : (v : Shown) (w t : Contents) (log : List Forward) (a b : Target) (p : Place) (c : ℕ) (r : Bool) → IsShown v → AreHeld v w → IsHeld v p.block p.offset → HasLog v w log → BoundOrNot v w t p c r
     → Ends (before v w log a b) (pair_of v a b) (Node (key v p)) (Atom c) → ends log (Node (key v p)) ≡ Node (key v p) → Outcome v w t log a b r
 bind_outcome v w t log a b p c true s held i h g e eA = subst (λ u. Outcome v w u log a b true) (sym g.1) (bind_step v w log a b p c s held i h g.0 e eA)
-bind_outcome v w t log a b p c false s held i h g e eA = clash_place v w t log a b (key v p) c e g.0
+bind_outcome v w t log a b p c false s held i h g e eA = record { popped = refl; clash = inr (key v p, c, g.0.0, g.0.1, e, g.0.2) }
 
 pub bind_keeps : (v : Shown) (w t : Contents) (p : Place) (c : ℕ) (r : Bool) → IsShown v → AreHeld v w → PairsHeld v w.pairs → IsHeld v p.block p.offset → BoundOrNot v w t p c r → IsSteady v w t
 bind_keeps v w t p c true s h ph i g = subst (IsSteady v w) (sym g.1) (bind_steady v w p c s h ph i)
@@ -283,5 +277,5 @@ bind_keeps v w t p c false s h ph i g = subst (IsSteady v w) (sym g.1) (same_ste
 pub atoms_outcome : (v : Shown) (w : Contents) (log : List Forward) (a b : Target) (c d : ℕ) (r : Bool) → HasLog v w log → r ≡ nat_eq c d → ends log (value_at v a) ≡ Atom c → ends log (value_at v b) ≡ Atom d → Outcome v w w log a b r
 atoms_outcome v w log a b c d r h q ea eb = elim (cases_eq c d) [
   | inl e ↦ subst (Outcome v w w log a b) (sym (q ∙ eq-eqb c d e)) (skip_step v w log a b h (ea ∙ (ap Atom e ∙ sym eb)))
-  | inr n ↦ subst (Outcome v w w log a b) (sym (q ∙ ne_eqb c d n)) (clash_atoms v w log a b c d (inl (ea, eb)) n)
+  | inr n ↦ subst (Outcome v w w log a b) (sym (q ∙ ne_eqb c d n)) (record { popped = refl; clash = inl (c, d, inl (ea, eb), n) })
 ]

@@ -22,7 +22,7 @@ use Rattle.patr_scratch.specs.declared.Side.TheVariants as side
 use Rattle.patr_scratch.specs.declared.Visit.{Visit}
 use Rattle.patr_scratch.specs.declared.Visit.TheVariants as visit
 use Rattle.patr_scratch.specs.Contents.{Contents}
-use Rattle.patr_unify.specs.Copying.{CopiesFit, Fits, IsCopiedTo, IsEndRef, IsOld, MarkFits, copied_of, copying_by, made_of, new_nodes, ref_to, stays_free}
+use Rattle.patr_unify.specs.Copying.{CopiesFit, Fits, IsCopiedTo, IsCopyMarked, IsEndRef, IsOld, MarkFits, copied_of, copying_by, made_of, new_nodes, ref_to, stays_free}
 use Rattle.patr_unify.specs.Deciding.{IsEndOfLeft}
 use Rattle.patr_unify.specs.Merging.{both}
 use Rattle.patr_unify.specs.Reading.{AreHeld, LinksHeld, OptionIsHeld, added_of, behind, forward_of, key, marks_in, option_at, slot_of, value_on}
@@ -84,6 +84,14 @@ worked_then w t u h k = record {
 
 pub still_worked : (w t : Contents) → IsStill w t → IsWorked w t
 still_worked w t h = record { places = h.places; pair_room = h.pair_room; visit_room = h.visit_room; forward = h.forward; added = h.added }
+
+pub marked_keeps : (v : Shown) (u m : Contents) (k : ℕ) (d : Copied) → IsCopyMarked v u m k d → IsWorked u m × ((j : ℕ) → visit_of v m j ≡ visit_of v u j) × (m.visits ≡ u.visits) × (m.pairs ≡ u.pairs)
+marked_keeps v u m k d h = (
+  record { places = h.places; pair_room = h.pair_room; visit_room = h.visit_room; forward = h.forward; added = h.added },
+  λ j. h.visit (slot_of (length v.structure) j),
+  h.visits,
+  h.pairs,
+)
 
 module _ (v : Shown) (w t : Contents) (h : IsWorked w t) where
   pub worked_forward : (k : ℕ) → forward_of v t k ≡ forward_of v w k

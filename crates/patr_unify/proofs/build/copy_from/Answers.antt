@@ -2,9 +2,8 @@ use Rattle.std.proofs.Common.{rules, ◌∙◌, ◌∷◌, ◌++◌, [], sym, ap
 use Rattle.patr_scratch.specs.declared.Visit.TheVariants as visit
 use Rattle.patr_unify.specs.Walking.{VisitsHeld, stack_of}
 use Rattle.patr_unify.proofs.Worked.{HasCopied, worked_ends, worked_held}
-use Rattle.patr_unify.proofs.CopyLoop.{copied_moved, going_falls}
+use Rattle.patr_unify.proofs.CopyLoop.{copied_moved, going_falls, at_top, finished, first_room, gone_held, gone_paused, starts, top_room, turned}
 use Rattle.patr_unify.proofs.Pauses.{paused_popped, paused_starts}
-use Rattle.patr_unify.proofs.Turning.{at_top, finished, first_room, gone_held, gone_paused, starts, top_room, turned}
 use Rattle.patr_unify.proofs.Walked.{held_popped, none_popped}
 use Rattle.patr_unify.proofs.build.copy_from.Goals as goal
 

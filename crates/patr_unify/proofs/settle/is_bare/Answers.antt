@@ -1,8 +1,5 @@
-use Rattle.std.proofs.Common.{◌≡◌, arith, subst}
-use Rattle.patr_marks.specs.Machine.{own}
-use Rattle.patr_arena.specs.declared.value.Addr.{Addr}
-use Rattle.patr_arena.specs.Shown.{arcs_from, number_of}
-use Rattle.patr_unify.proofs.Bare.{own_has, added_has, both_bare}
+use Rattle.std.proofs.Common.{arith}
+use Rattle.patr_unify.proofs.Loops.{arcs_are, own_has, added_has, both_bare}
 use Rattle.patr_unify.proofs.settle.is_bare.Goals as goal
 
 pub returns-then-own-gt0 : goal.returns-then-own-gt0
@@ -10,7 +7,7 @@ returns-then-own-gt0 g c =
     let v = g.N.Nodes.shown c.args.nodes.now in
     let p = c.args.place in
     let fs = c.arcs-own.result.now in
-    let same : arcs_from v p.block fs ≡ own v.structure (number_of v p.block p.offset) = subst (λ (a : Addr). arcs_from v a.block fs ≡ own v.structure (number_of v a.block a.offset)) c.address.ensures c.arcs-own.ensures.same in
+    let same = arcs_are v (g.met.N.Nodes.lawful c.args.nodes.now) c.args.scratch.now p c.requires.place c.address.result c.address.ensures fs c.arcs-own.ensures.held c.arcs-own.ensures.same in
     own_has v c.args.scratch.now (g.met.N.Nodes.lawful c.args.nodes.now) p fs c.requires.place same (omega arith)
 
 pub returns-in-Some : goal.returns-in-Some
@@ -23,5 +20,5 @@ returns-in-None g c =
     let v = g.N.Nodes.shown c.args.nodes.now in
     let p = c.args.place in
     let fs = c.arcs-own.result.now in
-    let same : arcs_from v p.block fs ≡ own v.structure (number_of v p.block p.offset) = subst (λ (a : Addr). arcs_from v a.block fs ≡ own v.structure (number_of v a.block a.offset)) c.address.ensures c.arcs-own.ensures.same in
+    let same = arcs_are v (g.met.N.Nodes.lawful c.args.nodes.now) c.args.scratch.now p c.requires.place c.address.result c.address.ensures fs c.arcs-own.ensures.held c.arcs-own.ensures.same in
     both_bare v c.args.scratch.now (g.met.N.Nodes.lawful c.args.nodes.now) p c.number.result fs c.requires.place same (omega arith) c.number.ensures c.in-None.ensures
