@@ -2,10 +2,8 @@
 use Rattle.std.proofs.Common.{◌≡◌, ℕ, zero, suc, ◌<◌, false, cond, Option, Some, None, refl, sym, ap, ◌∙◌, subst, arith}
 use Rattle.patr_model.specs.Structure.{Value, Atom, Node}
 use Rattle.patr_marks.specs.Settled.{onward, follow, IsFinal}
+use Rattle.patr_marks.proofs.Follow.{or_stay}
 use Rattle.patr_unify.specs.Following.{is_some, goes_on, chain}
-
-abbrev pub or_stay : ℕ → Option Value → Value
-or_stay k o = elim o as (λ o. Value) [ None ↦ Node k | Some v ↦ v ]
 
 pub follow_on : (n : ℕ) (f : ℕ → Option Value) (v : Value) → follow n f (onward f v) ≡ onward f (follow n f v)
 follow_on zero f v = refl

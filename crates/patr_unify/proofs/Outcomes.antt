@@ -6,6 +6,7 @@ use Rattle.patr_marks.specs.Machine.{lookup, Forward, Has, IsLog, Agrees, Ends, 
 use Rattle.patr_marks.specs.Settled.{onward, follow, IsFinal}
 use Rattle.patr_marks.specs.Sides.{sides}
 use Rattle.patr_marks.proofs.Lists.{ends_atom, ends_twice, log_agrees, has_cases, has_left, has_right}
+use Rattle.patr_marks.proofs.Follow.{final_end, final_ext, follow_add, follow_ends, follow_ext}
 use Rattle.patr_marks.proofs.Settles.{end_final, none_end, follow_final, log_follow}
 use Rattle.patr_arena.specs.Shown.{Shown, IsShown, IsHeld, number_of}
 use Rattle.patr_arena.specs.declared.value.Addr.{Addr}
@@ -20,25 +21,8 @@ use Rattle.patr_scratch.specs.Contents.{PlaceMarks, Contents, unmarked, slot, ma
 use Rattle.patr_unify.specs.Reading.{behind, key, value_at, slot_of, marks_in, option_at, forward_of, arcs_at, added_of, LinksHeld, PairsHeld, OptionIsHeld, AreHeld, IsEnding, IsEndOf}
 use Rattle.patr_unify.specs.Merging.{both, rev_onto, IsMerged}
 use Rattle.patr_unify.specs.Stepping.{HasLog, pair_of, before, Outcome, IsSteady, bound, BoundOrNot}
-use Rattle.patr_unify.proofs.Follow.{or_stay}
 use Rattle.patr_unify.proofs.Keys.{key_slot, key_room, node_one, slot_one}
 use Rattle.patr_unify.proofs.Merges.{marks_put, field_put}
-
-pub follow_ext : (n : ℕ) (f g : ℕ → Option Value) (x : Value) → ((k : ℕ) → f k ≡ g k) → follow n f x ≡ follow n g x
-follow_ext zero f g x h = refl
-follow_ext (suc n) f g x h = ap (follow n f) (on x) ∙ follow_ext n f g (onward g x) h
-  where
-    on : (x : Value) → onward f x ≡ onward g x
-    on (Atom c) = refl
-    on (Node k) = ap (or_stay k) (h k)
-
-pub final_ext : (f g : ℕ → Option Value) (x : Value) → ((k : ℕ) → f k ≡ g k) → IsFinal g x → IsFinal f x
-final_ext f g (Atom c) h i = tt
-final_ext f g (Node k) h i = h k ∙ i
-
-pub follow_add : (n m : ℕ) (f : ℕ → Option Value) (x : Value) → follow (n + m) f x ≡ follow n f (follow m f x)
-follow_add n zero f x = ap (λ q. follow q f x) (add-zero n)
-follow_add n (suc m) f x = ap (λ q. follow q f x) (add-suc n m) ∙ follow_add n m f (onward f x)
 
 -- a log no longer than the room of the pairs is followed within it
 pub end_by_log : (v : Shown) (w : Contents) (log : List Forward) (x : Value) → HasLog v w log → length log ≤ w.pair_room → follow w.pair_room (forward_of v w) x ≡ ends log x
@@ -56,30 +40,6 @@ log_ends v w log h l x =
 
 pub ending_of : (v : Shown) (w : Contents) (log : List Forward) (t : Target) → HasLog v w log → length log ≤ w.pair_room → IsEnding v w t
 ending_of v w log t h l = log_ends v w log h l (value_at v t)
-
-lookup_agrees : (m : Value → Value) (log : List Forward) (k : ℕ) (x : Value) → Agrees m log → lookup log k ≡ Some x → m (Node k) ≡ m x
-lookup_agrees m [] k x g e = cc
-lookup_agrees m (f ∷ log) k x g e = go (nat_eq k f.from) refl (lookup_agrees m log k x g.1) e
-  where
-    go : (b : Bool) → nat_eq k f.from ≡ b → (lookup log k ≡ Some x → m (Node k) ≡ m x) → cond b (Some f.to) (lookup log k) ≡ Some x → m (Node k) ≡ m x
-    go true q ih e = let w : f.to ≡ x = cc in ap (λ i. m (Node i)) (eqb-true k f.from q) ∙ (g.0 ∙ ap m w)
-    go false q ih e = ih e
-
-pub follow_ends : (n : ℕ) (f : ℕ → Option Value) (log : List Forward) → IsLog log → ((k : ℕ) → f k ≡ lookup log k) → (x : Value) → ends log (follow n f x) ≡ ends log x
-follow_ends zero f log h t x = refl
-follow_ends (suc n) f log h t x = follow_ends n f log h t (onward f x) ∙ one x
-  where
-    one : (x : Value) → ends log (onward f x) ≡ ends log x
-    one (Atom c) = refl
-    one (Node k) = go (f k) refl
-      where
-        go : (o : Option Value) → f k ≡ o → ends log (or_stay k o) ≡ ends log (Node k)
-        go None e = refl
-        go (Some y) e = sym (lookup_agrees (ends log) log k y (log_agrees log h) (sym (t k) ∙ e))
-
-pub final_end : (f : ℕ → Option Value) (log : List Forward) → ((k : ℕ) → f k ≡ lookup log k) → (x : Value) → IsFinal f x → ends log x ≡ x
-final_end f log t (Atom c) h = ends_atom log c
-final_end f log t (Node k) h = none_end log k (sym (t k) ∙ h)
 
 -- what `end_of` finds is the end by the log
 pub end_is : (v : Shown) (w : Contents) (log : List Forward) (from t : Target) → HasLog v w log → IsEndOf v w from t → (ends log (value_at v from) ≡ value_at v t) × (ends log (value_at v t) ≡ value_at v t)

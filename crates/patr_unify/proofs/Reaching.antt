@@ -7,6 +7,7 @@ use Rattle.patr_marks.specs.Machine.{Has, Within, own}
 use Rattle.patr_marks.specs.Named.{IsFree, side_of}
 use Rattle.patr_marks.specs.Settled.{Fits, IsEndNode, IsFinal, IsSettled, IsTidy}
 use Rattle.patr_marks.specs.Sides.{IsSide, shift, sides}
+use Rattle.patr_marks.proofs.Follow.{settled_within}
 use Rattle.patr_marks.proofs.Copied.{end_facts, one_end}
 use Rattle.patr_marks.proofs.Named.{path_below, root_within, reached_below, side_left, side_right, side_to}
 use Rattle.patr_marks.proofs.Settles.{follow_final}
@@ -24,29 +25,10 @@ use Rattle.patr_unify.specs.Reading.{forward_of}
 use Rattle.patr_unify.specs.Walking.{AllEnd, end_value, visit_of}
 use Rattle.patr_unify.proofs.Keeping.{free_behind}
 use Rattle.patr_unify.proofs.Keys.{lt_true}
-use Rattle.patr_unify.proofs.Walks.{one_end as one_final}
 
--- the marks of a settled scratch, by number, where forwards are followed as far as there is room for pairs
-abbrev pub stepped : (v : Shown) (w : Contents) (l : ℕ) (p : List ℕ) (r : Value) → AllEnd v w → IsSettled v.structure l p r (marks_by v w) → IsSettled v.structure l p r (marks_by v w)
-stepped v w l p r all i = record {
-  unifier = i.unifier;
-  top = i.top;
-  is_unifier = i.is_unifier;
-  steps = w.pair_room;
-  image = i.image;
-  atoms = i.atoms;
-  held = i.held;
-  root = i.root;
-  right = i.right;
-  ended = λ k h. subst (λ x. IsFinal (forward_of v w) x × Within (IsSide v.structure l r) x × (i.image x ≡ i.image (Node k))) (one_final (forward_of v w) i.steps w.pair_room (Node k) (i.ended k h).0 (all (Node k))) (i.ended k h);
-  node = i.node;
-  apart = i.apart;
-  arcs = i.arcs;
-  only = i.only;
-}
-
+-- the marks of a settled scratch, where forwards are followed as far as there is room for pairs
 abbrev pub numbered : (v : Shown) (s : IsShown v) (w : Contents) (l : ℕ) (p : List ℕ) (r : Value) → l < length v.structure → IsSettledFor v w l p r → IsSettled v.structure l p r (marks_by v w)
-numbered v s w l p r hl i = stepped v w l p r i.ending i.marks
+numbered v s w l p r hl i = settled_within v.structure l p r (marks_by v w) i.marks w.pair_room (λ k h. i.ending (Node k))
 
 pub tidy : (v : Shown) (s : IsShown v) (w : Contents) (l : ℕ) (p : List ℕ) (r : Value) (hl : l < length v.structure) (i : IsSettledFor v w l p r) → IsTidy v.structure l p r (marks_by v w) (numbered v s w l p r hl i)
 tidy v s w l p r hl i = record { own_arcs = i.tidy.own_arcs; sides_only = i.tidy.sides_only; sides_added = i.tidy.sides_added }

@@ -3,7 +3,7 @@ use Rattle.std.proofs.Common.{◌≡◌, ℕ, zero, suc, ◌+◌, inl, inr, Bool
 use Rattle.patr_model.specs.Structure.{Value, Arc, Arcs}
 use Rattle.patr_marks.specs.Machine.{Has}
 use Rattle.patr_marks.specs.Settled.{follow, IsFinal}
-use Rattle.patr_marks.proofs.Settles.{follow_final}
+use Rattle.patr_marks.proofs.Follow.{one_final}
 use Rattle.patr_arena.specs.Shown.{Shown, IsShown, IsHeld, number_of}
 use Rattle.patr_scratch.specs.declared.Place.{Place}
 use Rattle.patr_scratch.specs.declared.Target.{Target}
@@ -12,20 +12,11 @@ use Rattle.patr_scratch.specs.Contents.{Link, PlaceMarks, Contents, marks, after
 use Rattle.patr_unify.specs.Reading.{key, value_at, forward_of, arcs_at, IsEndOf}
 use Rattle.patr_unify.specs.Walking.{end_value, AllEnd, visit_of, AllButRest, HasVisit, IsFound, IsFoundAt, IsPassed}
 use Rattle.patr_unify.proofs.Keys.{key_marks}
-use Rattle.patr_unify.proofs.Outcomes.{follow_add}
-
--- forwards lead to one end
-pub one_end : (f : ℕ → Option Value) (m n : ℕ) (x : Value) → IsFinal f (follow m f x) → IsFinal f (follow n f x) → follow m f x ≡ follow n f x
-one_end f m n x hm hn =
-    sym (follow_final n f (follow m f x) hm) ∙ (sym (follow_add n m f x) ∙ (ap (λ q. follow q f x) (swapped n m) ∙ (follow_add m n f x ∙ follow_final m f (follow n f x) hn)))
-  where
-    swapped : (n m : ℕ) → n + m ≡ m + n
-    swapped n m = omega arith
 
 -- what `end_of` finds is the end
 pub end_found : (v : Shown) (w : Contents) (from t : Target) → AllEnd v w → IsEndOf v w from t → end_value v w (value_at v from) ≡ value_at v t
 end_found v w from t all e =
-    one_end (forward_of v w) w.pair_room e.steps (value_at v from) (all (value_at v from)) (subst (IsFinal (forward_of v w)) (sym e.follows) e.last) ∙ e.follows
+    one_final (forward_of v w) w.pair_room e.steps (value_at v from) (all (value_at v from)) (subst (IsFinal (forward_of v w)) (sym e.follows) e.last) ∙ e.follows
 
 pub visit_is : (v : Shown) (w : Contents) → IsShown v → (p : Place) (number : ℕ) (visit : Visit) → IsHeld v p.block p.offset → number ≡ number_of v p.block p.offset → visit ≡ (marks w p.side number).visit → visit ≡ visit_of v w (key v p)
 visit_is v w s p number visit h e g = g ∙ ap (λ (m : PlaceMarks). m.visit) (key_marks v w s p number h e)

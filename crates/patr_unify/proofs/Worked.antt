@@ -28,7 +28,7 @@ use Rattle.patr_unify.specs.Merging.{both}
 use Rattle.patr_unify.specs.Reading.{AreHeld, LinksHeld, OptionIsHeld, added_of, behind, forward_of, key, marks_in, option_at, slot_of, value_on}
 use Rattle.patr_unify.specs.Reading as reading
 use Rattle.patr_unify.specs.Walking.{AllEnd, IsStill, bare, end_value, visit_of}
-use Rattle.patr_unify.proofs.Outcomes.{follow_ext}
+use Rattle.patr_marks.proofs.Follow.{follow_ext}
 
 -- the places of new nodes
 pub new_place : (v : Shown) → IsShown v → (k : ℕ) → number_of v (length v.sizes) k ≡ length v.structure + k
