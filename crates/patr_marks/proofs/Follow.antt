@@ -10,6 +10,14 @@ use Rattle.patr_marks.proofs.Settles.{follow_final, none_end}
 abbrev pub or_stay : ℕ → Option Value → Value
 or_stay k o = elim o as (λ o. Value) [ None ↦ Node k | Some v ↦ v ]
 
+pub follow_on : (n : ℕ) (f : ℕ → Option Value) (v : Value) → follow n f (onward f v) ≡ onward f (follow n f v)
+follow_on zero f v = refl
+follow_on (suc n) f v = follow_on n f (onward f v)
+
+pub onward_final : (f : ℕ → Option Value) (v : Value) → IsFinal f v → onward f v ≡ v
+onward_final f (Atom c) h = refl
+onward_final f (Node k) h = ap (or_stay k) h
+
 pub follow_ext : (n : ℕ) (f g : ℕ → Option Value) (x : Value) → ((k : ℕ) → f k ≡ g k) → follow n f x ≡ follow n g x
 follow_ext zero f g x h = refl
 follow_ext (suc n) f g x h = ap (follow n f) (on x) ∙ follow_ext n f g (onward g x) h

@@ -41,7 +41,7 @@ log_ends v w log h l x =
 pub ending_of : (v : Shown) (w : Contents) (log : List Forward) (t : Target) → HasLog v w log → length log ≤ w.pair_room → IsEnding v w t
 ending_of v w log t h l = log_ends v w log h l (value_at v t)
 
--- what `end_of` finds is the end by the log
+-- what `dereference` finds is the end by the log
 pub end_is : (v : Shown) (w : Contents) (log : List Forward) (from t : Target) → HasLog v w log → IsEndOf v w from t → (ends log (value_at v from) ≡ value_at v t) × (ends log (value_at v t) ≡ value_at v t)
 end_is v w log from t h e =
     let last = final_end (forward_of v w) log h.table (value_at v t) e.last in

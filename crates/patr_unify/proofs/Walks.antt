@@ -13,7 +13,7 @@ use Rattle.patr_unify.specs.Reading.{key, value_at, forward_of, arcs_at, IsEndOf
 use Rattle.patr_unify.specs.Walking.{end_value, AllEnd, visit_of, AllButRest, HasVisit, IsFound, IsFoundAt, IsPassed}
 use Rattle.patr_unify.proofs.Keys.{key_marks}
 
--- what `end_of` finds is the end
+-- what `dereference` finds is the end
 pub end_found : (v : Shown) (w : Contents) (from t : Target) → AllEnd v w → IsEndOf v w from t → end_value v w (value_at v from) ≡ value_at v t
 end_found v w from t all e =
     one_final (forward_of v w) w.pair_room e.steps (value_at v from) (all (value_at v from)) (subst (IsFinal (forward_of v w)) (sym e.follows) e.last) ∙ e.follows

@@ -28,7 +28,7 @@ use Rattle.patr_unify.specs.Merging.{both}
 use Rattle.patr_unify.specs.Reading.{AreHeld, LinksHeld, OptionIsHeld, added_of, behind, forward_of, key, marks_in, option_at, slot_of, value_on}
 use Rattle.patr_unify.specs.Reading as reading
 use Rattle.patr_unify.specs.Walking.{AllEnd, IsStill, bare, end_value, visit_of}
-use Rattle.patr_marks.proofs.Follow.{follow_ext}
+use Rattle.patr_marks.proofs.Follow.{final_ext, follow_ext}
 
 -- the places of new nodes
 pub new_place : (v : Shown) → IsShown v → (k : ℕ) → number_of v (length v.sizes) k ≡ length v.structure + k
@@ -115,10 +115,6 @@ module _ (v : Shown) (w t : Contents) (h : IsWorked w t) where
 
   pub worked_ends : AllEnd v w → AllEnd v t
   worked_ends all x = subst (IsFinal (forward_of v t)) (sym (worked_end x)) (final_ext (forward_of v t) (forward_of v w) (end_value v w x) worked_forward (all x))
-    where
-      final_ext : (f g : ℕ → Option Value) (y : Value) → ((k : ℕ) → f k ≡ g k) → IsFinal g y → IsFinal f y
-      final_ext f g (Atom c) e i = tt
-      final_ext f g (Node k) e i = e k ∙ i
 
 -- each of the list has a lower rank than those behind it
 abbrev pub IsFalling : (ℕ → ℕ) → List ℕ → Type 0

@@ -8,7 +8,7 @@ ghost use Rattle.patr_scratch.specs.Contents.{KeepsRoom};
 ghost use Rattle.patr_unify.specs.Reading.{AreHeld, PairsHeld, TargetIsHeld, key};
 ghost use Rattle.patr_unify.specs.Stepping.{BareOrNot, BoundOrNot, Covers, HasLog, IsRunning, IsSteady, MergesFit, Outcome};
 
-use crate::ends::{address, end_of, number};
+use crate::ends::{address, dereference, number};
 use crate::merge::merge;
 use patr_arena::Nodes;
 use patr_scratch::{Place, Scratch, Side, Target};
@@ -72,7 +72,7 @@ fn bind<N: Nodes>(nodes: &N, place: Place, atom: u32, scratch: &mut Scratch) -> 
 }
 
 /// Works off a pair that was popped: its ends become one. False exactly where no structure takes the pair.
-pub(crate) fn settle<N: Nodes>(nodes: &N, a: Target, b: Target, scratch: &mut Scratch) -> bool
+pub(crate) fn unify_pair<N: Nodes>(nodes: &N, a: Target, b: Target, scratch: &mut Scratch) -> bool
     requires a { TargetIsHeld (N.shown nodes.now) a }
     requires b { TargetIsHeld (N.shown nodes.now) b }
     requires held { AreHeld (N.shown nodes.now) scratch.old }
@@ -81,12 +81,12 @@ pub(crate) fn settle<N: Nodes>(nodes: &N, a: Target, b: Target, scratch: &mut Sc
     ensures steady { IsSteady (N.shown nodes.now) scratch.old scratch.new }
     ensures outcome { (log : List Forward) → HasLog (N.shown nodes.now) scratch.old log → Outcome (N.shown nodes.now) scratch.old scratch.new log a b result }
 {
-    match end_of(nodes, scratch, a) {
-        Target::Atom(atom) => match end_of(nodes, scratch, b) {
+    match dereference(nodes, scratch, a) {
+        Target::Atom(atom) => match dereference(nodes, scratch, b) {
             Target::Atom(other) => atom == other,
             Target::Place(place) => bind(nodes, place, atom, scratch),
         },
-        Target::Place(first) => match end_of(nodes, scratch, b) {
+        Target::Place(first) => match dereference(nodes, scratch, b) {
             Target::Atom(atom) => bind(nodes, first, atom, scratch),
             Target::Place(second) => {
                 if same_place(first, second) {
@@ -104,14 +104,14 @@ pub(crate) fn settle<N: Nodes>(nodes: &N, a: Target, b: Target, scratch: &mut Sc
 }
 
 /// Works off all pairs. False exactly where nothing takes both sides.
-pub(crate) fn settle_all<N: Nodes>(nodes: &N, scratch: &mut Scratch) -> bool
+pub(crate) fn unify_pairs<N: Nodes>(nodes: &N, scratch: &mut Scratch) -> bool
     requires { (l : ℕ) × (r : Value) × (target : Value) × (ks : List ℕ) × Covers (N.shown nodes.now) l r ks × IsRunning (N.shown nodes.now) scratch.old l r target ks }
     ensures done { result ≡ true → (l : ℕ) (r target : Value) (ks : List ℕ) → Covers (N.shown nodes.now) l r ks → IsRunning (N.shown nodes.now) scratch.old l r target ks → IsRunning (N.shown nodes.now) scratch.new l r target ks × (scratch.new.pairs ≡ []) }
     ensures clash { result ≡ false → (l : ℕ) (r target : Value) (ks : List ℕ) → Covers (N.shown nodes.now) l r ks → IsRunning (N.shown nodes.now) scratch.old l r target ks → (p : List ℕ) → l < length (N.shown nodes.now).structure → IsValue (N.shown nodes.now).structure target → at (N.shown nodes.now).structure (Node l) p ≡ Some target → (G : Structure) (g : Value) → TakesBoth (N.shown nodes.now).structure (Node l) p (N.shown nodes.now).structure r G g → ⊥ }
     ensures room { KeepsRoom scratch.old scratch.new }
 {
     while let Some((a, b)) = scratch.pop_pair() {
-        if !settle(nodes, a, b, scratch) {
+        if !unify_pair(nodes, a, b, scratch) {
             return false;
         }
     }

@@ -5,12 +5,12 @@ use Rattle.patr_unify.specs.Reading.{key, value_at}
 use Rattle.patr_unify.specs.Walking.{HasWalked, IsAtPlace, IsWalkable}
 use Rattle.patr_unify.proofs.Outcomes.{log_ends}
 use Rattle.patr_unify.proofs.Walked.{at_place, atom_walked, entered_on, has_room, led_back, left_on, none_popped, not_turned, root_is, root_room, still_ends, still_held, turn_falls, walked_off, walked_starts}
-use Rattle.patr_unify.proofs.walk.walk.Given.{Over}
-use Rattle.patr_unify.proofs.walk.walk.Goals.{In-Some}
-use Rattle.patr_unify.proofs.walk.walk.Goals as goal
+use Rattle.patr_unify.proofs.walk.is_acyclic.Given.{Over}
+use Rattle.patr_unify.proofs.walk.is_acyclic.Goals.{In-Some}
+use Rattle.patr_unify.proofs.walk.is_acyclic.Goals as goal
 
-pub end_of-requires-clause-ending : goal.end_of-requires-clause-ending
-end_of-requires-clause-ending g c =
+pub dereference-requires-clause-ending : goal.dereference-requires-clause-ending
+dereference-requires-clause-ending g c =
     let v = g.N.Nodes.shown c.args.nodes.now in
     log_ends v c.args.scratch.now c.requires.start.log c.requires.start.has_log c.requires.start.short (value_at v c.left_target.result)
 

@@ -1,6 +1,6 @@
 use Rattle.std.proofs.Common.{arith}
 use Rattle.patr_unify.proofs.Loops.{arcs_are, own_has, added_has, both_bare}
-use Rattle.patr_unify.proofs.settle.is_bare.Goals as goal
+use Rattle.patr_unify.proofs.unify_pair.is_bare.Goals as goal
 
 pub returns-then-own-gt0 : goal.returns-then-own-gt0
 returns-then-own-gt0 g c =

@@ -2,7 +2,7 @@ use Rattle.std.proofs.Common.{◌≡◌, ℕ}
 use Rattle.patr_marks.specs.Settled.{follow}
 use Rattle.patr_unify.specs.Following.{chain}
 use Rattle.patr_unify.specs.Reading.{IsEnding, TargetIsHeld, forward_of, value_at}
-use Rattle.patr_unify.proofs.ends.end_of.Given as goal
+use Rattle.patr_unify.proofs.ends.dereference.Given as goal
 
 abbrev pub invariant-loop-target : goal.invariant-loop-target
 invariant-loop-target g l = record {

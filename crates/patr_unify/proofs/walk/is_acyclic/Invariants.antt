@@ -4,7 +4,7 @@ use Rattle.patr_arena.specs.Shown.{number_of}
 use Rattle.patr_scratch.specs.Contents.{KeepsRoom}
 use Rattle.patr_unify.specs.Stepping.{upto}
 use Rattle.patr_unify.specs.Walking.{HasWalked, IsWalkable, unseen_of}
-use Rattle.patr_unify.proofs.walk.walk.Given as goal
+use Rattle.patr_unify.proofs.walk.is_acyclic.Given as goal
 
 abbrev pub invariant-loop-top : goal.invariant-loop-top
 invariant-loop-top g l =

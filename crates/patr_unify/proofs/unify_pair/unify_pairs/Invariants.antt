@@ -3,7 +3,7 @@ use Rattle.patr_model.specs.Structure.{Value}
 use Rattle.patr_marks.specs.Machine.{total}
 use Rattle.patr_scratch.specs.Contents.{KeepsRoom}
 use Rattle.patr_unify.specs.Stepping.{Covers, IsRunning, weight_of, upto}
-use Rattle.patr_unify.proofs.settle.settle_all.Given as goal
+use Rattle.patr_unify.proofs.unify_pair.unify_pairs.Given as goal
 
 abbrev pub invariant-loop-a : goal.invariant-loop-a
 invariant-loop-a g l =

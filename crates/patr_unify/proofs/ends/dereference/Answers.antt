@@ -7,7 +7,7 @@ use Rattle.patr_unify.specs.Following.{chain}
 use Rattle.patr_unify.specs.Reading.{key, value_at, forward_of, TargetIsHeld, IsEnding}
 use Rattle.patr_unify.proofs.Follow.{step_on, followed_on}
 use Rattle.patr_unify.proofs.Keys.{forward_is, forward_held}
-use Rattle.patr_unify.proofs.ends.end_of.Goals as goal
+use Rattle.patr_unify.proofs.ends.dereference.Goals as goal
 
 pub loop-target-smaller : goal.loop-target-smaller
 loop-target-smaller g c =
