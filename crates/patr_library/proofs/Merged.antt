@@ -5,7 +5,7 @@ use Rattle.std.proofs.lemmas.List.{length-map, map-append, take_more}
 use Rattle.std.proofs.lemmas.Option.{slice_get_within}
 use Rattle.patr_model.proofs.Maps.{and_then_some}
 use Rattle.std.proofs.lemmas.Simd.{map-map}
-use Rattle.patr_model.specs.Numbered.{places}
+use Rattle.patr_lists.specs.Numbers.{places}
 use Rattle.patr_model.specs.Build.{build_fault, rules_fault, entries_fault, grammar_first, in_lexicon, rule_variants, entry_variants}
 use Rattle.patr_model.proofs.StatedCategories.{are_built}
 use Rattle.patr_text.specs.declared.symbols.Id.{Id}

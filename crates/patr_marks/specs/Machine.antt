@@ -4,7 +4,7 @@
 --     IsMerge, IsBind, IsSkip, IsClash   what becomes of a state as one pair is worked off
 --     IsMarked, IsWithin, IsForced       what holds at each moment
 -- D is one structure that holds both sides, the right one behind the left one.
-use Rattle.std.specs.Prelude.{◌≡◌, ◌≢◌, ℕ, suc, ◌+◌, ◌⊎◌, Bool, false, cond, ◌||◌, List, [], ◌∷◌, ◌++◌, length, Option, Some, None, nat_eq}
+use Rattle.std.specs.Prelude.{◌≡◌, ◌≢◌, ℕ, zero, suc, ◌+◌, ◌⊎◌, Bool, false, cond, ◌||◌, List, [], ◌∷◌, ◌++◌, length, Option, Some, None, nat_eq}
 use Rattle.patr_model.specs.Structure.{Value, Atom, Node, Arcs, Structure, along, arcs_of}
 
 -- a forward: the place that it stands at, and where it leads
@@ -192,6 +192,21 @@ abbrev pub lookup : List Forward → ℕ → Option Value
 lookup [] k = None
 lookup (e ∷ log) k = cond (nat_eq k e.from) (Some e.to) (lookup log k)
 
+-- the list has this number
+abbrev pub IsIn : List ℕ → ℕ → Type 0
+IsIn [] k = ⊥
+IsIn (j ∷ js) k = (j ≡ k) ⊎ IsIn js k
+
+-- no number stands twice in the list
+abbrev pub NoRepeats : List ℕ → Type 0
+NoRepeats [] = Unit {0}
+NoRepeats (j ∷ js) = (IsIn js j → ⊥) × NoRepeats js
+
+-- the sum of f over the list
+abbrev pub total : (ℕ → ℕ) → List ℕ → ℕ
+total f [] = 0
+total f (k ∷ ks) = f k + total f ks
+
 -- the number of attributes of an end's arcs, and nothing for a place that was forwarded
 abbrev pub weight : Structure → State → ℕ → ℕ
 weight D s k = cond (is_forwarded s.log k) 0 (degree (arcs_at D s k))
@@ -199,3 +214,8 @@ weight D s k = cond (is_forwarded s.log k) 0 (degree (arcs_at D s k))
 -- the number of own arcs of a place that was not forwarded
 abbrev pub left_over : Structure → State → ℕ → ℕ
 left_over D s k = cond (is_forwarded s.log k) 0 (length (own D k))
+
+-- so many of these arcs lead from the place k to the place j
+abbrev pub Reaches : (ℕ → Arcs) → ℕ → ℕ → ℕ → Type 0
+Reaches f k zero j = k ≡ j
+Reaches f k (suc n) j = (i a : ℕ) × Has (f k) a (Node i) × Reaches f i n j

@@ -6,10 +6,9 @@
 --     IsUntouched     a side node that keeps its place
 --     IsTidy          what the end of a run has besides
 use Rattle.std.specs.Prelude.{◌≡◌, ℕ, zero, suc, ◌+◌, ◌-◌, ◌<◌, ◌⊎◌, Bool, true, false, cond, ◌&&◌, nat_eq, nat_lt, List, [], ◌∷◌, ◌++◌, length, Option, Some, None}
-use Rattle.patr_lists.specs.Members.{IsIn}
 use Rattle.patr_model.specs.Structure.{Value, Atom, Node, Arcs, Structure, arc, at, IsStructure, IsValue}
 use Rattle.patr_model.specs.Subsumption.{IsUnifier}
-use Rattle.patr_marks.specs.Machine.{Has, has_attribute, own, Within}
+use Rattle.patr_marks.specs.Machine.{Has, has_attribute, own, Within, IsIn, Reaches}
 use Rattle.patr_marks.specs.Quotient.{Below}
 use Rattle.patr_marks.specs.Sides.{shift, sides, IsSide}
 
@@ -128,12 +127,12 @@ new_end y c j = record { value = put j (Node ((length y.nodes) + length c.new)) 
 abbrev pub extend : Copying → Copy → ℕ → Copy
 extend y c j = cond (keeps y c.value j) (keep_end y c j) (new_end y c j)
 
--- what copy reads is of S, and right places are free only where no left end has their place
+-- what copy reads is of S, and of two places of one node the right side's is not free
 pub record Fits (P : ℕ → Type 0) (y : Copying) : Type 0 where
   pub structure : IsStructure y.nodes
   pub own_is : (k : ℕ) → y.own k ≡ own (sides y.nodes) k
   pub range : (k : ℕ) → P k → k < length y.nodes + length y.nodes
-  pub free_is : (k : ℕ) → P k → k < length y.nodes → y.free (length y.nodes + k) ≡ false
+  pub free_is : (k : ℕ) → P k → P (length y.nodes + k) → k < length y.nodes → y.free (length y.nodes + k) ≡ false
 
 -- a place's own arcs, and then the added ones
 abbrev pub all_arcs : Copying → ℕ → Arcs
@@ -173,16 +172,12 @@ pub record IsAlone (P : ℕ → Type 0) (y : Copying) (c : Copy) (k : ℕ) : Typ
   pub node : goes_to y c k ≡ Node place
   pub attributes : (a : ℕ) (v : Value) → arc (y.nodes ++ c.new) (goes_to y c k) a ≡ Some v → (x : Value) × Has (y.own k) a x
 
--- own arcs lead from the place k to the place j
-abbrev pub OwnReach : Copying → ℕ → ℕ → ℕ → Type 0
-OwnReach y k zero j = k ≡ j
-OwnReach y k (suc n) j = (i a : ℕ) × Has (y.own k) a (Node i) × OwnReach y i n j
-
 -- each place that own arcs lead to is alone and may be kept
 abbrev pub IsUntouched : (ℕ → Type 0) → Copying → Copy → ℕ → Type 0
-IsUntouched P y c k = (n j : ℕ) → OwnReach y k n j → IsAlone P y c j × (y.free j ≡ true)
+IsUntouched P y c k = (n j : ℕ) → Reaches y.own k n j → IsAlone P y c j × (y.free j ≡ true)
 
--- What the end of a run has besides: the own arcs of each side node go where those of its image go, and no forward stands elsewhere. With it side nodes go where their paths lead.
+-- What the end of a run has besides: the own arcs of each side node go where those of its image go, no forward stands elsewhere, and added arcs lead to side nodes. With it side nodes go where their paths lead.
 pub record IsTidy (S : Structure) (l : ℕ) (p : List ℕ) (r : Value) (m : Marks) (i : IsSettled S l p r m) : Type 0 where
   pub own_arcs : (k a : ℕ) (x : Value) → IsSide S l r k → Has (own (sides S) k) a x → arc i.unifier (i.image (Node k)) a ≡ Some (i.image x)
   pub sides_only : (k : ℕ) (v : Value) → m.forward k ≡ Some v → IsSide S l r k
+  pub sides_added : (k a : ℕ) (x : Value) → Has (m.added k) a x → Within (IsSide S l r) x

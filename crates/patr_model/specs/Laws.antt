@@ -5,7 +5,6 @@ use Rattle.patr_lists.specs.Members.{NoRepeats, IsIn}
 use Rattle.patr_model.specs.Chart.{Judgement, InChart, IsDerivation}
 use Rattle.patr_model.specs.Plain.{plain, IsPlain, IsBare}
 use Rattle.patr_model.specs.Solved.{solved}
-use Rattle.patr_model.specs.Settled.{SideNode, Target, Marks, Images, IsSettled, IsClosed, IsFollowed}
 use Rattle.patr_model.specs.Session.{Grounds, State, IsLeastText, IsSentenceReply}
 use Rattle.patr_model.specs.Category.{category}
 use Rattle.patr_model.specs.Equation.{AtomOf}
@@ -70,14 +69,6 @@ NoMoreThanAll = (ts us : List Derivation) → NoRepeats ts → ((t : Derivation)
 abbrev pub SameAsUnifier : Type 0
 SameAsUnifier = (L : Structure) (l : Value) (p : List ℕ) (R : Structure) (r : Value) (U : Structure) (u : Value) (V : Structure) (v : Value)
     → IsUnifier L l p R r U u → IsStructure V → IsValue V v → Same U u V v → IsUnifier L l p R r V v
-
--- Marks that are closed, and followed by each structure that takes both, are settled: they stand for a unifier.
-abbrev pub ClosedMarksAreSettled : Type 0
-ClosedMarksAreSettled = (L : Structure) (l : Value) (p : List ℕ) (R : Structure) (r : Value) (m : Marks)
-    (known : SideNode → Bool) (end : SideNode → Target) (number : SideNode → ℕ) (order : List SideNode)
-    → IsStructure L → IsStructure R → IsClosed L l p R r m known end number order
-    → ((G : Structure) (g : Value) → IsStructure G → (images : Images L l p R r G g) → IsFollowed L l p R r m known end order G g images)
-    → IsSettled L l p R r m
 
 -- least values of a derivation have one text
 abbrev pub LeastTextsAreOne : Grounds → Type 0

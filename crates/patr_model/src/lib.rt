@@ -6,7 +6,7 @@ mod field;
 mod front;
 mod notation;
 
-ghost use Rattle.patr_model.specs.Laws.{SubsumptionIsOrder, UnifiersAreSame, LeastValuesExtend, UnifierIsLeastValue, SameAsUnifier, ClosedMarksAreSettled, NoMoreThanAll, OneReply, PlainIsSolvable, CategoriesAreOneAll, CanonicalTexts, TextsAreRead, ReadingIsBack, LeastTextsAreOneAll, WalksAreWhole, Printing, WalksByStack, MapsByPairsAll, BuildsByStack, SortedIsInOrder, ReadsByItemsAll, TextsAreLocal};
+ghost use Rattle.patr_model.specs.Laws.{SubsumptionIsOrder, UnifiersAreSame, LeastValuesExtend, UnifierIsLeastValue, SameAsUnifier, NoMoreThanAll, OneReply, PlainIsSolvable, CategoriesAreOneAll, CanonicalTexts, TextsAreRead, ReadingIsBack, LeastTextsAreOneAll, WalksAreWhole, Printing, WalksByStack, MapsByPairsAll, BuildsByStack, SortedIsInOrder, ReadsByItemsAll, TextsAreLocal};
 ghost use Rattle.patr_model.specs.Keys.{KeysTell};
 ghost use Rattle.patr_model.specs.Rounds.{RoundsFindChart, PairsAreCountedAll};
 ghost use Rattle.patr_model.specs.EquationStructures.{EquationsAreStructures};
@@ -49,11 +49,6 @@ pub fn unifier_is_least_value()
 /// What is the same as a unifier is one.
 pub fn same_as_unifier()
     ensures { SameAsUnifier }
-{}
-
-/// Marks that are closed and that every structure follows stand for a unifier.
-pub fn closed_marks_are_settled()
-    ensures { ClosedMarksAreSettled }
 {}
 
 /// A list without repeats is no longer than one that has its members.

@@ -4,19 +4,18 @@ use Rattle.std.proofs.Math.Seq.{get_or-append_seam}
 use Rattle.std.specs.List.Sorted.{IsStrictlyIncreasing}
 use Rattle.std.proofs.lemmas.Bool.{cases_eq, and_from}
 use Rattle.std.proofs.lemmas.List.{length-map, map-append}
-use Rattle.patr_lists.proofs.Totals.{total_same}
-use Rattle.patr_lists.proofs.Members.{no_longer}
-use Rattle.patr_lists.specs.Members.{IsIn}
 use Rattle.patr_model.specs.Structure.{Value, Atom, Node, Arc, HasDistinct, IsBelow, along, arc, arcs_of}
-use Rattle.patr_marks.specs.Machine.{Has, own}
+use Rattle.patr_marks.specs.Machine.{Has, IsIn, own, total}
 use Rattle.patr_marks.specs.Quotient.{Below}
-use Rattle.patr_marks.specs.Settled.{Copy, Copying, IsCopy, IsSparing, all_arcs, base, covered, extend, keep_end, keeps, led_by, new_end, stays, through}
+use Rattle.patr_marks.specs.Settled.{Copy, Copying, IsCopy, IsSparing, all_arcs, base, covered, extend, keep_end, keeps, led_by, new_end, stays, through, IsFinal, follow}
 use Rattle.patr_marks.specs.Settled as marks_settled
-use Rattle.patr_marks.specs.Settled.{IsFinal, follow}
 use Rattle.patr_marks.specs.Sides.{IsSide, sides}
 use Rattle.patr_marks.proofs.Lists.{has_left}
 use Rattle.patr_marks.proofs.Copy.{base_below, base_has, kept_is_copy, node_is_copy, put_in, put_same, stays_has}
+use Rattle.patr_marks.proofs.Bounds.{stack_room}
+use Rattle.patr_marks.proofs.Room.{total_same}
 use Rattle.patr_marks.proofs.Untouched.{extend_spares, stays_from}
+use Rattle.patr_arena.specs.Blocks.{OldIsHeld}
 use Rattle.patr_arena.specs.Paths.{feature_to}
 use Rattle.patr_arena.specs.Shown.{Shown, IsShown, IsHeld, arc_from, arcs_from}
 use Rattle.patr_arena.specs.declared.value.Feature.{Feature}
@@ -34,7 +33,7 @@ use Rattle.patr_unify.specs.Deciding.{IsEndOfLeft, IsSettledFor}
 use Rattle.patr_unify.specs.Merging.{both}
 use Rattle.patr_unify.specs.Reading.{added_of, forward_of, key, marks_in, slot_of}
 use Rattle.patr_unify.specs.Walking.{HasVisit, IsFoundAt, IsOther, end_value, visit_of}
-use Rattle.patr_unify.proofs.Worked.{HasCopied, IsFalling, IsWorked, arcs_longer, base_arcs, base_key, copied_more, falling_once, left_or, mark_more, new_place, old_from, old_to, ref_value, worked_added, worked_both, worked_end, worked_forward}
+use Rattle.patr_unify.proofs.Worked.{HasCopied, IsFalling, IsWorked, arcs_longer, base_arcs, base_key, copied_more, falling_once, left_or, mark_more, marked_keeps, new_place, old_from, old_to, ref_value, still_worked, worked_added, worked_both, worked_end, worked_forward, worked_then}
 
 -- one end is copied
 module _ (v : Shown) (s : IsShown v) (w t u : Contents) (l : ℕ) (r : Value) (p : List ℕ) (set : IsSettledFor v w l p r) (fits : marks_settled.Fits (IsSide v.structure l r) (copying_by v w))
@@ -92,7 +91,7 @@ module _ (v : Shown) (s : IsShown v) (w t u : Contents) (l : ℕ) (r : Value) (p
   -- there is room for it
   pub room_to_enter : (ls : List ℕ) → ((k : ℕ) → IsSide v.structure l r k → IsIn ls k) → length ls ≤ w.visit_room → length ls ≤ w.pair_room + 1 → length rest ≡ length t.visits → length t.pairs ≡ length rest → HasRoomToEnter v t (key v top)
   room_to_enter ls covers room few size pairs a x q h o =
-      let fits = no_longer (key v q ∷ key v top ∷ rest) ls (falling_once has.rank (key v q ∷ key v top ∷ rest) (entering_falls a x q h o)) (λ k m. covers k (is_side k (stack_reached a x q h o k m))) in
+      let fits = stack_room (key v q ∷ key v top ∷ rest) ls (falling_once has.rank (key v q ∷ key v top ∷ rest) (entering_falls a x q h o)) (λ k m. covers k (is_side k (stack_reached a x q h o k m))) in
       (omega (arith, fits, room, size, has.still.visit_room), omega (arith, fits, few, pairs, has.still.pair_room))
 
   -- it is entered
@@ -113,13 +112,7 @@ module _ (v : Shown) (s : IsShown v) (w t u : Contents) (l : ℕ) (r : Value) (p
       ] in
       let new : (k : ℕ) → IsIn (key v top ∷ rest) k ⊎ IsIn has.ks k → IsIn (J ∷ key v top ∷ rest) k ⊎ IsIn has.ks k = λ k m. elim m [ inl i ↦ inl (inr i) | inr i ↦ inr i ] in
       record {
-        still = record {
-          places = still.places ∙ has.still.places;
-          pair_room = still.pair_room ∙ has.still.pair_room;
-          visit_room = still.visit_room ∙ has.still.visit_room;
-          forward = λ j. still.forward j ∙ has.still.forward j;
-          added = λ j. still.added j ∙ has.still.added j;
-        };
+        still = worked_then w t u has.still (still_worked t u still);
         rank = has.rank;
         falls = has.falls;
         ks = has.ks;
@@ -237,28 +230,46 @@ module _ (v : Shown) (s : IsShown v) (w t u : Contents) (l : ℕ) (r : Value) (p
 
     module _ (d : Copied) (m : IsCopyMarked v t u (key v top) d) where
       worked : IsWorked w u
-      worked = record {
-        places = m.places ∙ has.still.places;
-        pair_room = m.pair_room ∙ has.still.pair_room;
-        visit_room = m.visit_room ∙ has.still.visit_room;
-        forward = λ j. m.forward j ∙ has.still.forward j;
-        added = λ j. m.added j ∙ has.still.added j;
-      }
+      worked = worked_then w t u has.still (marked_keeps v t u (key v top) d m).0
 
       same_visit : (k : ℕ) → visit_of v u k ≡ visit_of v t k
       same_visit k = m.visit (slot_of n k)
 
-      still_entered : (k : ℕ) → IsIn rest k ⊎ IsIn (key v top ∷ has.ks) k → visit_of v u k ≡ visit.Entered
-      still_entered k h = same_visit k ∙ has.entered k (moved k h)
-
-      still_back : (k : ℕ) → visit_of v u k ≡ visit.Entered → IsIn rest k ⊎ IsIn (key v top ∷ has.ks) k
-      still_back k e = moved_back k (has.back k (sym (same_visit k) ∙ e))
-
-      still_others : (k : ℕ) → (visit_of v u k ≡ visit.Entered) ⊎ (visit_of v u k ≡ visit_of v w k)
-      still_others k = elim (has.others k) [ inl e ↦ inl (same_visit k ∙ e) | inr e ↦ inr (same_visit k ∙ e) ]
-
-      other_mark : (k : ℕ) → IsIn has.ks k → copied_of v u k ≡ copied_of v t k
-      other_mark k h = m.others k (λ e. K_out (subst (IsIn has.ks) e h))
+      -- one more end was copied
+      more : (blocks : List (List Feature)) (x : Value) → ((o : Option Copied) (z : Value) → IsCopiedTo v (length block) o z → IsCopiedTo v (length blocks) o z) → ((o : Option Copied) → MarkFits v (length block) o → MarkFits v (length blocks) o)
+          → IsCopy P y (key v top ∷ has.ks) (record { value = marks_settled.put (key v top) x has.value; new = new_nodes v blocks }) → IsSparing y (key v top ∷ has.ks) (record { value = marks_settled.put (key v top) x has.value; new = new_nodes v blocks })
+          → IsCopiedTo v (length blocks) (Some d) x → OldIsHeld v blocks → (more_nodes more_arcs : ℕ) → more_nodes ≡ nodes + 1
+          → more_arcs ≡ total (λ k. length (arcs_of (v.structure ++ new_nodes v blocks) (marks_settled.put (key v top) x has.value k))) (key v top ∷ has.ks) → HasCopied v w u l r blocks more_nodes more_arcs rest
+      more blocks x lift lift_mark copy sparing made old more_nodes more_arcs en ea =
+          let value = marks_settled.put K x has.value in
+          let count = has.nodes_are in
+          record {
+            still = worked;
+            rank = has.rank;
+            falls = has.falls;
+            ks = K ∷ has.ks;
+            value = value;
+            copy = copy;
+            sparing = sparing;
+            once = (K_out, has.once);
+            ends = λ j h. has.ends j (moved j h);
+            apart = parted;
+            falling = has.falling.1;
+            root = λ j e. moved_back j (has.root j e);
+            entered = λ k h. same_visit k ∙ has.entered k (moved k h);
+            back = λ k e. moved_back k (has.back k (sym (same_visit k) ∙ e));
+            others = λ k. elim (has.others k) [ inl e ↦ inl (same_visit k ∙ e) | inr e ↦ inr (same_visit k ∙ e) ];
+            marked = λ j h. elim h [
+              | inl e ↦ subst (λ z. IsCopiedTo v (length blocks) (copied_of v u z) (value z)) e (subst (λ o. IsCopiedTo v (length blocks) o (value K)) (sym m.here) (subst (IsCopiedTo v (length blocks) (Some d)) (sym (put_same K x has.value)) made))
+              | inr q ↦
+                  subst (λ z. IsCopiedTo v (length blocks) (copied_of v u j) z) (sym (put_in K x has.value has.ks j K_out q))
+                  (subst (λ o. IsCopiedTo v (length blocks) o (has.value j)) (sym (m.others j (λ e. K_out (subst (IsIn has.ks) e q)))) (lift (copied_of v t j) (has.value j) (has.marked j q)))
+            ];
+            fits = λ j. elim (m.each j) [ inl e ↦ subst (MarkFits v (length blocks)) (sym e) made.1 | inr e ↦ subst (MarkFits v (length blocks)) (sym e) (lift_mark (marks_in t j).copied (has.fits j)) ];
+            old = old;
+            nodes_are = omega (arith, en, count);
+            arcs_are = ea;
+          }
 
     -- it stays at its place
     pub stayed : IsKeptOrNot v t (key v top) true → IsCopyMarked v t u (key v top) (copied.Old top.block top.offset) → (more_nodes more_arcs : ℕ) → more_nodes ≡ nodes + 1 → more_arcs ≡ arcs + length (own (sides v.structure) (key v top))
@@ -274,32 +285,9 @@ module _ (v : Shown) (s : IsShown v) (w t u : Contents) (l : ℕ) (r : Value) (p
         ap (λ z. length {A = Arc} (arcs_of V z)) (put_same K x has.value) ∙ (ap (length {A = Arc}) (arcs_longer v.structure (new_nodes v block) x low) ∙ base_arcs v.structure K (fits.range K (is_side K K_end))) in
         let others = total_same (λ j. length (arcs_of V (value j))) (λ j. length (arcs_of V (has.value j))) ks (λ j h. ap (λ z. length {A = Arc} (arcs_of V z)) (put_in K x has.value ks j K_out h)) in
         let was = has.arcs_are in
-        let count = has.nodes_are in
-        record {
-          still = worked d m;
-          rank = has.rank;
-          falls = has.falls;
-          ks = K ∷ ks;
-          value = value;
-          copy = kept_is_copy P y ks c K fits has.copy K_out (is_side K K_end) all (kept_is k);
-          sparing = subst (IsSparing y (K ∷ ks)) (ap (λ b. cond b (keep_end y c K) (new_end y c K)) (kept_is k)) (extend_spares P y ks c K has.copy has.sparing K_out all);
-          once = (K_out, has.once);
-          ends = λ j h. has.ends j (moved j h);
-          apart = parted;
-          falling = has.falling.1;
-          root = λ j e. moved_back j (has.root j e);
-          entered = still_entered d m;
-          back = still_back d m;
-          others = still_others d m;
-          marked = λ j h. elim h [
-            | inl e ↦ subst (λ z. IsCopiedTo v (length block) (copied_of v u z) (value z)) e (subst (λ o. IsCopiedTo v (length block) o (value K)) (sym m.here) (sym (put_same K x has.value ∙ base_key v top s top_held), (tt, top_held)))
-            | inr q ↦ subst (λ z. IsCopiedTo v (length block) (copied_of v u j) z) (sym (put_in K x has.value ks j K_out q)) (subst (λ o. IsCopiedTo v (length block) o (has.value j)) (sym (other_mark d m j q)) (has.marked j q))
-          ];
-          fits = λ j. elim (m.each j) [ inl e ↦ subst (MarkFits v (length block)) (sym e) (tt, top_held) | inr e ↦ subst (MarkFits v (length block)) (sym e) (has.fits j) ];
-          old = has.old;
-          nodes_are = omega (arith, en, count);
-          arcs_are = omega (arith, ea, was, first, others);
-        }
+        more d m block x (λ o z h. h) (λ o h. h) (kept_is_copy P y ks c K fits has.copy K_out (is_side K K_end) all (kept_is k))
+        (subst (IsSparing y (K ∷ ks)) (ap (λ b. cond b (keep_end y c K) (new_end y c K)) (kept_is k)) (extend_spares P y ks c K has.copy has.sparing K_out all)) (sym (base_key v top s top_held), (tt, top_held)) has.old more_nodes more_arcs en
+        (omega (arith, ea, was, first, others))
 
     led_some : (o : Option Ref) (x : Value) → led_to v (length v.sizes) o ≡ Some x → (q : Ref) × (o ≡ Some q) × (x ≡ made_of v q)
     led_some None x e = cc
@@ -336,39 +324,9 @@ module _ (v : Shown) (s : IsShown v) (w t u : Contents) (l : ℕ) (r : Value) (p
         let others = total_same (λ j. length (arcs_of V (value j))) (λ j. length (arcs_of (S ++ old_new) (has.value j))) ks (λ j h.
         ap (λ z. length {A = Arc} (arcs_of V z)) (put_in K x has.value ks j K_out h) ∙ (ap (λ G. length {A = Arc} (arcs_of G (has.value j))) whole ∙ ap (length {A = Arc}) (arcs_longer (S ++ old_new) (es ∷ []) (has.value j) (has.copy.below j h)))) in
         let was = has.arcs_are in
-        let count = has.nodes_are in
-        record {
-          still = worked d m;
-          rank = has.rank;
-          falls = has.falls;
-          ks = K ∷ ks;
-          value = value;
-          copy = subst (λ N. IsCopy P y (K ∷ ks) (record { value = value; new = N })) (sym is_new) is_copy;
-          sparing = record { kept = spares.kept; from_end = from_new fs spares };
-          once = (K_out, has.once);
-          ends = λ j h. has.ends j (moved j h);
-          apart = parted;
-          falling = has.falling.1;
-          root = λ j e. moved_back j (has.root j e);
-          entered = still_entered d m;
-          back = still_back d m;
-          others = still_others d m;
-          marked = λ j h. elim h [
-            | inl e ↦
-                subst (λ z. IsCopiedTo v (length (block ++ fs ∷ [])) (copied_of v u z) (value z)) e
-                (subst (λ o. IsCopiedTo v (length (block ++ fs ∷ [])) o (value K)) (sym m.here) (ap Node (new_place v s (length block) ∙ ap (λ q. n + q) (sym mapped)) ∙ sym (put_same K x has.value), (omega (arith, size), tt)))
-            | inr q ↦
-                subst (λ z. IsCopiedTo v (length (block ++ fs ∷ [])) (copied_of v u j) z) (sym (put_in K x has.value ks j K_out q))
-                (subst (λ o. IsCopiedTo v (length (block ++ fs ∷ [])) o (has.value j)) (sym (other_mark d m j q)) (subst (λ z. IsCopiedTo v z (copied_of v t j) (has.value j)) (sym size) (copied_more v (length block) (copied_of v t j) (has.value j) (has.marked j q))))
-          ];
-          fits = λ j. elim (m.each j) [
-            | inl e ↦ subst (MarkFits v (length (block ++ fs ∷ []))) (sym e) (omega (arith, size), tt)
-            | inr e ↦ subst (MarkFits v (length (block ++ fs ∷ []))) (sym e) (subst (λ z. MarkFits v z (marks_in t j).copied) (sym size) (mark_more v (length block) (marks_in t j).copied (has.fits j)))
-          ];
-          old = old_push v block fs has.old node.old;
-          nodes_are = omega (arith, en, count);
-          arcs_are = omega (arith, ea, was, first, others);
-        }
+        more d m (block ++ fs ∷ []) x (λ o z h. subst (λ q. IsCopiedTo v q o z) (sym size) (copied_more v (length block) o z h)) (λ o h. subst (λ q. MarkFits v q o) (sym size) (mark_more v (length block) o h))
+        (subst (λ N. IsCopy P y (K ∷ ks) (record { value = value; new = N })) (sym is_new) is_copy) (record { kept = spares.kept; from_end = from_new fs spares })
+        (ap Node (new_place v s (length block) ∙ ap (λ q. n + q) (sym mapped)), (omega (arith, size), tt)) (old_push v block fs has.old node.old) more_nodes more_arcs en (omega (arith, ea, was, first, others))
       where
         each_arc : (fs : List Feature) → IsNodeOf v t (length block) (both v t (key v top)) fs → (a : ℕ) (z : Value) → Has (both v w (key v top)) a z
             → (q : Value) × Has (both v w (key v top)) a q × (along (arcs_from v (length v.sizes) fs) a ≡ Some (through has.value (end_value v w q)))

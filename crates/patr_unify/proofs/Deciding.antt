@@ -1,28 +1,24 @@
 -- How a decision begins and ends.
-use Rattle.std.proofs.Common.{◌≡◌, ℕ, zero, suc, ◌+◌, ◌<◌, ◌≤◌, inl, inr, Option, Some, None, List, [], ◌∷◌, ◌++◌, length, length-append, map, replicate, get_or, refl, sym, ap, ◌∙◌, subst, arith}
+use Rattle.std.proofs.Common.{◌≡◌, ℕ, zero, suc, ◌+◌, ◌<◌, ◌≤◌, ◌⊎◌, inl, inr, Option, Some, None, List, [], ◌∷◌, ◌++◌, length, length-append, map, replicate, get_or, refl, sym, ap, ◌∙◌, subst, arith}
 use Rattle.std.proofs.lemmas.List.{length-map, length-replicate}
-use Rattle.patr_lists.proofs.Members.{once_append, in_right, in_left}
-use Rattle.patr_lists.proofs.Places.{below_or_behind}
-use Rattle.patr_lists.proofs.Totals.{total_same, total_append, total_ext}
-use Rattle.patr_lists.specs.Members.{NoRepeats, IsIn}
-use Rattle.patr_lists.specs.Numbers.{total}
 use Rattle.patr_model.specs.Structure.{Value, Node, Arc, Arcs, Structure, IsStructure, IsValue, at}
 use Rattle.patr_model.specs.Subsumption.{TakesBoth}
-use Rattle.patr_model.specs.Settled.{SideNode, Left, Right, IsSideNode}
-use Rattle.patr_model.specs.Settled as named
-use Rattle.patr_marks.specs.Machine.{Pair, State, Has, ends, own, weight, degree, lookup}
-use Rattle.patr_marks.specs.Named.{IsAtSides, named_marks, side_of}
+use Rattle.patr_model.specs.Settled.{IsSideNode}
+use Rattle.patr_marks.specs.Machine.{Pair, State, Has, IsIn, NoRepeats, ends, own, total, weight, degree, lookup}
+use Rattle.patr_marks.specs.Named.{side_of}
 use Rattle.patr_marks.specs.Run.{IsRun, first_pair}
-use Rattle.patr_marks.specs.Settled.{Marks}
+use Rattle.patr_marks.specs.Settled.{IsSettled, IsTidy, Marks}
 use Rattle.patr_marks.specs.Sides.{IsSide, shift, shifted, sides}
 use Rattle.patr_marks.specs.Walk.{ReachedIn}
 use Rattle.patr_marks.proofs.Bounds.{start_room}
-use Rattle.patr_marks.proofs.Named.{left_within, names_settle, reached_below, side_left, side_right, side_to}
-use Rattle.patr_marks.proofs.Settles.{lookup_within, settles, tidies}
-use Rattle.patr_marks.proofs.Sides.{own_left, own_right}
+use Rattle.patr_marks.proofs.Named.{left_within, reached_below, side_left, side_right, side_to}
+use Rattle.patr_marks.proofs.Room.{total_same}
+use Rattle.patr_marks.proofs.Settles.{settles, tidies}
+use Rattle.patr_marks.proofs.Sides.{below_or_behind, own_left, own_right}
 use Rattle.patr_marks.proofs.Unifier.{cycle_ends, reached_side, root_side, run_starts}
 use Rattle.patr_arena.specs.Shown.{Shown, IsShown, ValueIsHeld, value_of}
 use Rattle.patr_arena.specs.declared.value.Value as its
+use Rattle.patr_arena.proofs.Addresses.{value_below}
 use Rattle.patr_scratch.specs.declared.Side.TheVariants as side
 use Rattle.patr_scratch.specs.declared.Target.{Target}
 use Rattle.patr_scratch.specs.Contents.{Contents, HasRoom, PlaceMarks, begun, unmarked}
@@ -31,12 +27,18 @@ use Rattle.patr_unify.specs.Reading.{AreHeld, LinksHeld, OptionIsHeld, added_of,
 use Rattle.patr_unify.specs.Stepping.{Covers, IsRunning}
 use Rattle.patr_unify.specs.Walking.{IsLedBack, IsStill, IsWalkable, IsWalkedOff}
 use Rattle.patr_unify.proofs.Keys.{target_held, target_value}
-use Rattle.patr_unify.proofs.Edges.{reach_edges}
+use Rattle.patr_unify.proofs.Edges.{in_left, in_right, reach_edges}
+use Rattle.patr_unify.proofs.Running.{total_ext}
 use Rattle.patr_unify.proofs.Walked.{still_added, still_both, still_end, still_ends, still_forward, still_held}
 
 -- all side nodes: the right side's behind those of the left
 abbrev pub both_lists : ℕ → List ℕ → List ℕ → List ℕ
 both_lists n ls rs = ls ++ map (λ k. n + k) rs
+
+pub in_cases : (xs ys : List ℕ) (k : ℕ) → IsIn (xs ++ ys) k → IsIn xs k ⊎ IsIn ys k
+in_cases [] ys k h = inr h
+in_cases (x ∷ xs) ys k (inl e) = inl (inl e)
+in_cases (x ∷ xs) ys k (inr h) = elim (in_cases xs ys k h) [ inl m ↦ inl (inr m) | inr m ↦ inr m ]
 
 in_map : (n : ℕ) (xs : List ℕ) (k : ℕ) → IsIn xs k → IsIn (map (λ j. n + j) xs) (n + k)
 in_map n [] k h = absurd h
@@ -54,6 +56,14 @@ once_map n (x ∷ xs) h = ((λ m. let r = map_in n xs (n + x) m in h.0 (subst (I
   where
     same : (n x j : ℕ) → n + x ≡ n + j → j ≡ x
     same n x j e = omega (arith, e)
+
+pub once_append : (xs ys : List ℕ) → NoRepeats xs → NoRepeats ys → ((k : ℕ) → IsIn xs k → IsIn ys k → ⊥) → NoRepeats (xs ++ ys)
+once_append [] ys h g d = g
+once_append (x ∷ xs) ys h g d = ((λ m. elim (in_cases xs ys x m) [ inl n ↦ h.0 n | inr n ↦ d x (inl refl) n ]), once_append xs ys h.1 g (λ k m n. d k (inr m) n))
+
+total_append : (f : ℕ → ℕ) (xs ys : List ℕ) → total f (xs ++ ys) ≡ total f xs + total f ys
+total_append f [] ys = omega arith
+total_append f (x ∷ xs) ys = let r = total_append f xs ys in omega (arith, r)
 
 total_map : (f : ℕ → ℕ) (n : ℕ) (xs : List ℕ) → total f (map (λ k. n + k) xs) ≡ total (λ k. f (n + k)) xs
 total_map f n [] = refl
@@ -186,13 +196,6 @@ module _ (v : Shown) (s : IsShown v) (w : Contents) (l : ℕ) (hl : l < length v
         empty = refl;
       }
 
-  pub decision_starts : (t : Contents) → t ≡ with_first w (target_on side.Left x) (target_on side.Right y)
-      → Covers v l (value_of v y) (both_lists (length v.structure) room.left.list room.right.list) × IsRunning v t l (value_of v y) (value_of v x) (both_lists (length v.structure) room.left.list room.right.list)
-  decision_starts t e = (
-    all_covers v s l (value_of v y) hl room.left.list room.right.list room.left.is room.right.is,
-    subst (λ q. IsRunning v q l (value_of v y) (value_of v x) (both_lists (length v.structure) room.left.list room.right.list)) (sym e) running_starts,
-  )
-
 -- where the walk begins
 abbrev pub walkable : (v : Shown) → IsShown v → (w : Contents) (l : ℕ) (r target : Value) (ks : List ℕ) → Covers v l r ks → IsRunning v w l r target ks → w.pairs ≡ [] → IsWalkable v w l
 walkable v s w l r target ks c i none = record {
@@ -264,6 +267,28 @@ room_stays v s w u t l r hl room has still =
       };
     }
 
+-- the first pair is pushed: the decision has begun
+pub record HasBegun (v : Shown) (t : Contents) (l : ℕ) (p : List ℕ) (target r : Value) : Type 0 where
+  pub below : l < length v.structure
+  pub value : IsValue v.structure target
+  pub there : at v.structure (Node l) p ≡ Some target
+  pub ks : List ℕ
+  pub covers : Covers v l r ks
+  pub running : IsRunning v t l r target ks
+  pub stays : (u z : Contents) → HasRoom u (length v.structure) (length ks) (total (λ k. length (own (sides v.structure) k)) ks) → IsStill u z → HasDecisionRoom v z l r
+
+pub decision_begins : (v : Shown) (s : IsShown v) (w : Contents) (l : ℕ) (hl : l < length v.structure) (p : List ℕ) (x y : its.Value) → ValueIsHeld v x → ValueIsHeld v y → at v.structure (Node l) p ≡ Some (value_of v x) → HasDecisionRoom v w l (value_of v y)
+    → (t : Contents) → t ≡ with_first w (target_on side.Left x) (target_on side.Right y) → HasBegun v t l p (value_of v x) (value_of v y)
+decision_begins v s w l hl p x y hx hy there room t e = record {
+  below = hl;
+  value = value_below v s x hx;
+  there = there;
+  ks = both_lists (length v.structure) room.left.list room.right.list;
+  covers = all_covers v s l (value_of v y) hl room.left.list room.right.list room.left.is room.right.is;
+  running = subst (λ q. IsRunning v q l (value_of v y) (value_of v x) (both_lists (length v.structure) room.left.list room.right.list)) (sym e) (running_starts v s w l hl p x y hx hy there room);
+  stays = λ u z. room_stays v s w u z l (value_of v y) hl room;
+}
+
 marks_same : (f g : ℕ → Option Value) (a b : ℕ → Arcs) → ((k : ℕ) → f k ≡ g k) → ((k : ℕ) → a k ≡ b k) → (let m : Marks = record { forward = f; added = a } in m) ≡ record { forward = g; added = b }
 marks_same f g a b e h = λ i. record { forward = λ k. e k i; added = λ k. h k i }
 
@@ -279,26 +304,21 @@ module _ (v : Shown) (s : IsShown v) (w t : Contents) (l : ℕ) (r target : Valu
   same : (let m : Marks = record { forward = lookup i.log; added = added_of v w } in m) ≡ marks_by v t
   same = marks_same (lookup i.log) (forward_of v t) (added_of v w) (added_of v t) (λ k. sym (i.has_log.table k) ∙ sym (still_forward v w t off.still k)) (λ k. sym (still_added v w t off.still k))
 
-  marks_settled : named.IsSettled v.structure (Node l) p v.structure r (named_marks (length v.structure) (marks_by v t))
+  marks_settled : (m : IsSettled v.structure l p r (marks_by v t)) × IsTidy v.structure l p r (marks_by v t) m
   marks_settled =
       let pending = ap (pairs_at v) none in
-      let is = settles v.structure l p r target state off.order s.structure hl ht there i.run pending off.ordered off.below inside in
-      let tidy = tidies v.structure l p r target state off.order s.structure hl ht there i.run pending off.ordered off.below inside in
-      subst (λ m. named.IsSettled v.structure (Node l) p v.structure r (named_marks (length v.structure) m)) same (names_settle v.structure l p r (record { forward = lookup i.log; added = added_of v w }) s.structure hl is tidy)
-
-  sides_only : IsAtSides v.structure l r (marks_by v t)
-  sides_only = subst (IsAtSides v.structure l r) same (record {
-    forward = λ k x. lookup_within (IsSide v.structure l r) i.log k x i.run.within.log;
-    added = λ k a x h. (i.run.within.added k a x h).1;
-  })
+      subst (λ m. (n : IsSettled v.structure l p r m) × IsTidy v.structure l p r m n) same (
+        settles v.structure l p r target state off.order s.structure hl ht there i.run pending off.ordered off.below inside,
+        tidies v.structure l p r target state off.order s.structure hl ht there i.run pending off.ordered off.below inside,
+      )
 
   pub settled_for : IsValue v.structure r → HasDecisionRoom v t l r → IsSettledFor v t l p r
   settled_for hr room = record {
     there = (target, there);
     right = hr;
     held = still_held v w t off.still i.held;
-    marks = marks_settled;
-    at_sides = sides_only;
+    marks = marks_settled.0;
+    tidy = marks_settled.1;
     ending = still_ends v w t l (walkable v s w l r target ks c i none) off.still;
     uncopied = λ j. off.still.copied j ∙ i.uncopied j;
     no_pairs = off.no_pairs;

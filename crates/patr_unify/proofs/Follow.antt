@@ -2,18 +2,8 @@
 use Rattle.std.proofs.Common.{◌≡◌, ℕ, zero, suc, ◌<◌, false, cond, Option, Some, None, refl, sym, ap, ◌∙◌, subst, arith}
 use Rattle.patr_model.specs.Structure.{Value, Atom, Node}
 use Rattle.patr_marks.specs.Settled.{onward, follow, IsFinal}
+use Rattle.patr_marks.proofs.Follow.{follow_on, onward_final, or_stay}
 use Rattle.patr_unify.specs.Following.{is_some, goes_on, chain}
-
-abbrev pub or_stay : ℕ → Option Value → Value
-or_stay k o = elim o as (λ o. Value) [ None ↦ Node k | Some v ↦ v ]
-
-pub follow_on : (n : ℕ) (f : ℕ → Option Value) (v : Value) → follow n f (onward f v) ≡ onward f (follow n f v)
-follow_on zero f v = refl
-follow_on (suc n) f v = follow_on n f (onward f v)
-
-pub onward_final : (f : ℕ → Option Value) (v : Value) → IsFinal f v → onward f v ≡ v
-onward_final f (Atom c) h = refl
-onward_final f (Node k) h = ap (or_stay k) h
 
 final_stays : (f : ℕ → Option Value) (v : Value) → IsFinal f v → goes_on f v ≡ false
 final_stays f (Atom c) h = refl

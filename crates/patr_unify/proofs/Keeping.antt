@@ -10,6 +10,7 @@ use Rattle.patr_arena.specs.declared.value.Addr.{Addr}
 use Rattle.patr_arena.specs.declared.value.Ref.{Ref}
 use Rattle.patr_arena.specs.declared.value.Ref.TheVariants as ref
 use Rattle.patr_arena.proofs.Addresses.{address_tells}
+use Rattle.patr_arena.proofs.Showing.{held_below}
 use Rattle.patr_scratch.specs.declared.Copied.{Copied}
 use Rattle.patr_scratch.specs.declared.Place.{Place}
 use Rattle.patr_scratch.specs.declared.Side.{Side}
@@ -20,7 +21,7 @@ use Rattle.patr_scratch.specs.Contents.{Contents, Link, PlaceMarks, after, marks
 use Rattle.patr_unify.specs.Copying.{AllLead, CopiesFit, Fits, IsEndRef, IsOld, LeadsAsBefore, LeadsElsewhere, MarkFits, copied_of, free_of, ref_to, stays_free}
 use Rattle.patr_unify.specs.Reading.{arcs_at, behind, forward_of, key, marks_in, marks_of, slot_of, value_on}
 use Rattle.patr_unify.specs.Walking.{end_value, visit_of}
-use Rattle.patr_unify.proofs.Keys.{key_marks}
+use Rattle.patr_unify.proofs.Keys.{key_marks, lt_false, lt_true, node_one}
 
 -- the mark that is read
 pub copied_is : (v : Shown) (w : Contents) → IsShown v → (p : Place) (number : ℕ) (o : Option Copied) → IsHeld v p.block p.offset → number ≡ number_of v p.block p.offset → o ≡ (marks w p.side number).copied → o ≡ copied_of v w (key v p)
@@ -44,10 +45,7 @@ mark_fits v w size k o made r c e q g = subst (Fits v size) (sym g) (subst (Mark
 -- an arc that leads to an old node
 pub old_is : (v : Shown) (r : Ref) (at : Addr) → OldRefIsHeld v r → IsHeld v at.block at.offset → IsOld v r (Node (number_of v at.block at.offset)) → r ≡ ref.Old at
 old_is v (ref.Atom c) at h k e = cc
-old_is v (ref.Old b) at h k e = ap ref.Old (sym (address_tells v at b k h (one (number_of v at.block at.offset) (number_of v b.block b.offset) e)))
-  where
-    one : (m n : ℕ) → Node m ≡ Node n → m ≡ n
-    one m n e = cc
+old_is v (ref.Old b) at h k e = ap ref.Old (sym (address_tells v at b k h (node_one (number_of v at.block at.offset) (number_of v b.block b.offset) e)))
 old_is v (ref.New n) at h k e = absurd e
 
 -- a value of a side, back among the nodes
@@ -55,45 +53,12 @@ pub base_on : (s : Side) (n : ℕ) (y : Value) → IsBelow n y → base n (value
 base_on side.Left n y h = base_left n y h
 base_on side.Right n y h = base_shift n y
 
--- what is left of the arcs, while all others lead where they led before
-abbrev pub HasLed : Shown → Contents → Arcs → Arcs → Type 0
-HasLed v w es rest = (a : ℕ) (x : Value) → Has es a x → Has rest a x ⊎ LeadsAsBefore v w x
-
-pub led_starts : (v : Shown) (w : Contents) (es : Arcs) → HasLed v w es es
-led_starts v w es a x h = inl h
-
-pub led_on : (v : Shown) (w : Contents) (es : Arcs) (e : Arc) (rest : Arcs) → HasLed v w es (e ∷ rest) → LeadsAsBefore v w e.to → HasLed v w es rest
-led_on v w es e rest i h a x n = elim (i a x n) [
-  | inl m ↦ elim m [ inl q ↦ inr (subst (LeadsAsBefore v w) q.1 h) | inr r ↦ inl r ]
-  | inr d ↦ inr d
-]
-
-pub led_all : (v : Shown) (w : Contents) (es : Arcs) → HasLed v w es [] → AllLead v w es true
-led_all v w es i a x h = elim (i a x h) [ inl n ↦ absurd n | inr d ↦ d ]
-
 -- one arc
 pub leads_before : (v : Shown) (w : Contents) (s : Side) (x y : Value) (r : Ref) → IsBelow (length v.structure) y → x ≡ value_on s (length v.structure) y → IsEndRef v w (end_value v w x) r → IsOld v r y → LeadsAsBefore v w x
 leads_before v w s x y r b e i o = (r, i, subst (IsOld v r) (sym (ap (base (length v.structure)) e ∙ base_on s (length v.structure) y b)) o)
 
 pub leads_elsewhere : (v : Shown) (w : Contents) (s : Side) (x y : Value) (r : Ref) → IsBelow (length v.structure) y → x ≡ value_on s (length v.structure) y → IsEndRef v w (end_value v w x) r → (IsOld v r y → ⊥) → LeadsElsewhere v w x
 leads_elsewhere v w s x y r b e i o = (r, i, λ q. o (subst (IsOld v r) (ap (base (length v.structure)) e ∙ base_on s (length v.structure) y b) q))
-
--- attributes that are there
-pub has_some : (es : Arcs) (a : ℕ) (x : Value) → Some x ≡ along es a → has_attribute es a ≡ true
-has_some [] a x e = cc
-has_some (f ∷ es) a x e = go (nat_eq f.attribute a) (has_some es a x) e
-  where
-    go : (b : Bool) → (Some x ≡ along es a → has_attribute es a ≡ true) → Some x ≡ cond b (Some f.to) (along es a) → (b || has_attribute es a) ≡ true
-    go true ih e = refl
-    go false ih e = ih e
-
-pub has_none : (es : Arcs) (a : ℕ) → None ≡ along es a → has_attribute es a ≡ false
-has_none [] a e = refl
-has_none (f ∷ es) a e = go (nat_eq f.attribute a) (has_none es a) e
-  where
-    go : (b : Bool) → (None ≡ along es a → has_attribute es a ≡ false) → None ≡ cond b (Some f.to) (along es a) → (b || has_attribute es a) ≡ false
-    go true ih e = cc
-    go false ih e = ih e
 
 -- the next added arc is covered, or not
 pub covered_on : (es fs rest : Arcs) (e : Arc) → covered (e ∷ rest) fs ≡ covered es fs → has_attribute fs e.attribute ≡ true → covered rest fs ≡ covered es fs
@@ -106,24 +71,16 @@ pub covered_all : (v : Shown) (ls : List Link) (next : Option ℕ) (fs : Arcs) �
 covered_all v ls (Some cell) fs e n = absurd (n cell refl)
 covered_all v ls None fs e n = e
 
--- places that are free
-pub free_left : (v : Shown) (w : Contents) (p : Place) (k : ℕ) → p.side ≡ side.Left → k < length v.structure → key v p ≡ behind p.side (length v.structure) k → true ≡ free_of v w (key v p)
-free_left v w p k e h q = sym (ap (λ b. cond b true (stays_free (forward_of v w (key v p - length v.structure)) (visit_of v w (key v p - length v.structure)))) (under (key v p) (length v.structure) (subst (λ j. j < length v.structure) (sym (q ∙ ap (λ s. behind s (length v.structure) k) e)) h)))
+pub free_behind : (v : Shown) (w : Contents) (k : ℕ) → free_of v w (length v.structure + k) ≡ stays_free (forward_of v w k) (visit_of v w k)
+free_behind v w k =
+    ap (λ b. cond b true (stays_free (forward_of v w ((length v.structure + k) - length v.structure)) (visit_of v w ((length v.structure + k) - length v.structure)))) (lt_false (length v.structure + k) (length v.structure) (omega arith))
+    ∙ ap (λ j. stays_free (forward_of v w j) (visit_of v w j)) (back (length v.structure) k)
   where
-    under : (k n : ℕ) → k < n → nat_lt k n ≡ true
-    under k n h = grind arith
-
-pub free_right : (v : Shown) (w : Contents) (p : Place) (k : ℕ) → p.side ≡ side.Right → key v p ≡ behind p.side (length v.structure) k → stays_free (forward_of v w k) (visit_of v w k) ≡ free_of v w (key v p)
-free_right v w p k e q =
-    let at : key v p ≡ length v.structure + k = q ∙ ap (λ s. behind s (length v.structure) k) e in
-    sym (ap (free_of v w) at ∙ (ap (λ b. cond b true (stays_free (forward_of v w ((length v.structure + k) - length v.structure)) (visit_of v w ((length v.structure + k) - length v.structure)))) (not_below (length v.structure) k)
-    ∙ ap (λ j. stays_free (forward_of v w j) (visit_of v w j)) (back (length v.structure) k)))
-  where
-    not_below : (n k : ℕ) → nat_lt (n + k) n ≡ false
-    not_below n k = grind arith
-
     back : (n k : ℕ) → (n + k) - n ≡ k
     back n k = omega arith
+
+pub free_right : (v : Shown) (w : Contents) (p : Place) (k : ℕ) → p.side ≡ side.Right → key v p ≡ behind p.side (length v.structure) k → stays_free (forward_of v w k) (visit_of v w k) ≡ free_of v w (key v p)
+free_right v w p k e q = sym (ap (free_of v w) (q ∙ ap (λ s. behind s (length v.structure) k) e) ∙ free_behind v w k)
 
 pub free_seen : (o : Option Value) (state : Visit) (b : Bool) → o ≡ None → (b ≡ true → state ≡ visit.Unseen) → (b ≡ false → state ≢ visit.Unseen) → b ≡ stays_free o state
 free_seen None visit.Unseen true e y n = refl
@@ -135,8 +92,8 @@ free_seen None visit.Left false e y n = refl
 free_seen (Some x) state b e y n = cc
 
 -- the left side's marks at a number
-pub left_marks : (v : Shown) (w : Contents) (k : ℕ) → k < length v.structure → marks w side.Left k ≡ marks_of v w k
-left_marks v w k h = ap (marks_in w) (sym (ap (λ b. cond b (2 * k) (2 * (k - length v.structure) + 1)) (under k (length v.structure) h)))
-  where
-    under : (k n : ℕ) → k < n → nat_lt k n ≡ true
-    under k n h = grind arith
+pub left_marks : (v : Shown) (w : Contents) → IsShown v → (p : Place) (number : ℕ) → IsHeld v p.block p.offset → number ≡ number_of v p.block p.offset → marks w side.Left number ≡ marks_of v w (number_of v p.block p.offset)
+left_marks v w s p number h e =
+    let n = length v.structure in
+    let k = number_of v p.block p.offset in
+    ap (λ j. marks w side.Left j) e ∙ ap (marks_in w) (sym (ap (λ b. cond b (2 * k) (2 * (k - n) + 1)) (lt_true k n (held_below v s p.block p.offset h))))

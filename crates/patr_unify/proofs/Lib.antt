@@ -1,4 +1,3 @@
-pub mod Bare
 pub mod Follow
 pub mod Keys
 pub mod Merges
@@ -7,6 +6,7 @@ pub mod Running
 pub mod Outcomes
 pub mod Takes
 pub mod Walks
+pub mod Loops
 pub mod Visits
 pub mod Walked
 pub mod Pauses
@@ -15,10 +15,8 @@ pub mod Deciding
 pub mod Reaching
 pub mod Keeping
 pub mod Gathering
-pub mod Copies
 pub mod Building
 pub mod Making
-pub mod Turning
 pub mod Worked
 pub mod CopyLoop
 pub mod Counting

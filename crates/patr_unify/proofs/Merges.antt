@@ -7,8 +7,7 @@ use Rattle.patr_arena.specs.Shown.{Shown, IsShown, IsHeld, number_of}
 use Rattle.patr_scratch.specs.declared.Side.{Side}
 use Rattle.patr_scratch.specs.declared.Place.{Place}
 use Rattle.patr_scratch.specs.declared.Target.{Target}
-use Rattle.patr_scratch.specs.Contents.{Link}
-use Rattle.patr_scratch.specs.Contents.{PlaceMarks, Contents, unmarked, slot, marks, put, with_arc, HasPlace}
+use Rattle.patr_scratch.specs.Contents.{Link, PlaceMarks, Contents, unmarked, slot, marks, put, with_arc, HasPlace}
 use Rattle.patr_unify.specs.Reading.{key, value_at, TargetIsHeld, slot_of, marks_in, marks_of, arcs_at, added_of, pairs_at, LinksHeld, PairsHeld, OptionIsHeld, AreHeld, has_link}
 use Rattle.patr_unify.specs.Merging.{IsKept, both, one_pair, one_more, IsGiven}
 use Rattle.patr_unify.proofs.Keys.{key_slot, key_marks, key_room, slot_one, has_links}

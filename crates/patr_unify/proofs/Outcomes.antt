@@ -6,6 +6,7 @@ use Rattle.patr_marks.specs.Machine.{lookup, Forward, Has, IsLog, Agrees, Ends, 
 use Rattle.patr_marks.specs.Settled.{onward, follow, IsFinal}
 use Rattle.patr_marks.specs.Sides.{sides}
 use Rattle.patr_marks.proofs.Lists.{ends_atom, ends_twice, log_agrees, has_cases, has_left, has_right}
+use Rattle.patr_marks.proofs.Follow.{final_end, final_ext, follow_add, follow_ends, follow_ext}
 use Rattle.patr_marks.proofs.Settles.{end_final, none_end, follow_final, log_follow}
 use Rattle.patr_arena.specs.Shown.{Shown, IsShown, IsHeld, number_of}
 use Rattle.patr_arena.specs.declared.value.Addr.{Addr}
@@ -20,25 +21,8 @@ use Rattle.patr_scratch.specs.Contents.{PlaceMarks, Contents, unmarked, slot, ma
 use Rattle.patr_unify.specs.Reading.{behind, key, value_at, slot_of, marks_in, option_at, forward_of, arcs_at, added_of, LinksHeld, PairsHeld, OptionIsHeld, AreHeld, IsEnding, IsEndOf}
 use Rattle.patr_unify.specs.Merging.{both, rev_onto, IsMerged}
 use Rattle.patr_unify.specs.Stepping.{HasLog, pair_of, before, Outcome, IsSteady, bound, BoundOrNot}
-use Rattle.patr_unify.proofs.Follow.{or_stay}
-use Rattle.patr_unify.proofs.Keys.{key_slot, key_room, slot_one}
+use Rattle.patr_unify.proofs.Keys.{key_slot, key_room, node_one, slot_one}
 use Rattle.patr_unify.proofs.Merges.{marks_put, field_put}
-
-pub follow_ext : (n : ℕ) (f g : ℕ → Option Value) (x : Value) → ((k : ℕ) → f k ≡ g k) → follow n f x ≡ follow n g x
-follow_ext zero f g x h = refl
-follow_ext (suc n) f g x h = ap (follow n f) (on x) ∙ follow_ext n f g (onward g x) h
-  where
-    on : (x : Value) → onward f x ≡ onward g x
-    on (Atom c) = refl
-    on (Node k) = ap (or_stay k) (h k)
-
-pub final_ext : (f g : ℕ → Option Value) (x : Value) → ((k : ℕ) → f k ≡ g k) → IsFinal g x → IsFinal f x
-final_ext f g (Atom c) h i = tt
-final_ext f g (Node k) h i = h k ∙ i
-
-pub follow_add : (n m : ℕ) (f : ℕ → Option Value) (x : Value) → follow (n + m) f x ≡ follow n f (follow m f x)
-follow_add n zero f x = ap (λ q. follow q f x) (add-zero n)
-follow_add n (suc m) f x = ap (λ q. follow q f x) (add-suc n m) ∙ follow_add n m f (onward f x)
 
 -- a log no longer than the room of the pairs is followed within it
 pub end_by_log : (v : Shown) (w : Contents) (log : List Forward) (x : Value) → HasLog v w log → length log ≤ w.pair_room → follow w.pair_room (forward_of v w) x ≡ ends log x
@@ -57,35 +41,24 @@ log_ends v w log h l x =
 pub ending_of : (v : Shown) (w : Contents) (log : List Forward) (t : Target) → HasLog v w log → length log ≤ w.pair_room → IsEnding v w t
 ending_of v w log t h l = log_ends v w log h l (value_at v t)
 
-lookup_agrees : (m : Value → Value) (log : List Forward) (k : ℕ) (x : Value) → Agrees m log → lookup log k ≡ Some x → m (Node k) ≡ m x
-lookup_agrees m [] k x g e = cc
-lookup_agrees m (f ∷ log) k x g e = go (nat_eq k f.from) refl (lookup_agrees m log k x g.1) e
-  where
-    go : (b : Bool) → nat_eq k f.from ≡ b → (lookup log k ≡ Some x → m (Node k) ≡ m x) → cond b (Some f.to) (lookup log k) ≡ Some x → m (Node k) ≡ m x
-    go true q ih e = let w : f.to ≡ x = cc in ap (λ i. m (Node i)) (eqb-true k f.from q) ∙ (g.0 ∙ ap m w)
-    go false q ih e = ih e
-
-pub follow_ends : (n : ℕ) (f : ℕ → Option Value) (log : List Forward) → IsLog log → ((k : ℕ) → f k ≡ lookup log k) → (x : Value) → ends log (follow n f x) ≡ ends log x
-follow_ends zero f log h t x = refl
-follow_ends (suc n) f log h t x = follow_ends n f log h t (onward f x) ∙ one x
-  where
-    one : (x : Value) → ends log (onward f x) ≡ ends log x
-    one (Atom c) = refl
-    one (Node k) = go (f k) refl
-      where
-        go : (o : Option Value) → f k ≡ o → ends log (or_stay k o) ≡ ends log (Node k)
-        go None e = refl
-        go (Some y) e = sym (lookup_agrees (ends log) log k y (log_agrees log h) (sym (t k) ∙ e))
-
-pub final_end : (f : ℕ → Option Value) (log : List Forward) → ((k : ℕ) → f k ≡ lookup log k) → (x : Value) → IsFinal f x → ends log x ≡ x
-final_end f log t (Atom c) h = ends_atom log c
-final_end f log t (Node k) h = none_end log k (sym (t k) ∙ h)
-
--- what `end_of` finds is the end by the log
+-- what `dereference` finds is the end by the log
 pub end_is : (v : Shown) (w : Contents) (log : List Forward) (from t : Target) → HasLog v w log → IsEndOf v w from t → (ends log (value_at v from) ≡ value_at v t) × (ends log (value_at v t) ≡ value_at v t)
 end_is v w log from t h e =
     let last = final_end (forward_of v w) log h.table (value_at v t) e.last in
     (sym (follow_ends e.steps (forward_of v w) log h.is_log h.table (value_at v from)) ∙ (ap (ends log) e.follows ∙ last), last)
+
+-- the ends of a pair
+pub record AreEnds (v : Shown) (log : List Forward) (a : Target) (b : Target) (x : Target) (y : Target) : Type 0 where
+  pub first : ends log (value_at v a) ≡ value_at v x
+  pub first_end : ends log (value_at v x) ≡ value_at v x
+  pub second : ends log (value_at v b) ≡ value_at v y
+  pub second_end : ends log (value_at v y) ≡ value_at v y
+
+pub ends_are : (v : Shown) (w : Contents) (log : List Forward) (a b x y : Target) → HasLog v w log → IsEndOf v w a x → IsEndOf v w b y → AreEnds v log a b x y
+ends_are v w log a b x y h e f =
+    let one = end_is v w log a x h e in
+    let two = end_is v w log b y h f in
+    record { first = one.0; first_end = one.1; second = two.0; second_end = two.1 }
 
 -- two places with one key are the same
 pub key_one : (v : Shown) → IsShown v → (p q : Place) → IsHeld v p.block p.offset → IsHeld v q.block q.offset → key v p ≡ key v q → p ≡ q
@@ -157,7 +130,7 @@ pub merge_step : (v : Shown) (w t : Contents) (log : List Forward) (a b : Target
 merge_step v w t log a b A B h m n lA lB e eA eB =
     let ms = missing (own (sides v.structure) A) (added_of v w A) (both v w B) in (
       record { from = A; to = Node B } ∷ log,
-      log_more v w t log A (Node B) h eA eB (λ q. n (node B A q)) m.forward m.forwards,
+      log_more v w t log A (Node B) h eA eB (λ q. n (sym (node_one B A q))) m.forward m.forwards,
       omega arith,
       inl (
         A,
@@ -180,22 +153,6 @@ merge_step v w t log a b A B h m n lA lB e eA eB =
         },
       ),
     )
-  where
-    node : (j k : ℕ) → Node j ≡ Node k → k ≡ j
-    node j k q = cc
-
-pub merge_steady : (v : Shown) (w t : Contents) (A B : ℕ) → IsMerged v w t A B → IsSteady v w t
-merge_steady v w t A B m = record {
-  places = m.places;
-  arc_room = m.arc_room;
-  pair_room = m.pair_room;
-  visits = m.visits;
-  visit_room = m.visit_room;
-  copied = m.copied;
-  visit = m.visit;
-  held = m.held;
-  pairs_held = m.pairs_held;
-}
 
 pub same_steady : (v : Shown) (w : Contents) → AreHeld v w → PairsHeld v w.pairs → IsSteady v w w
 same_steady v w h p = record { places = refl; arc_room = refl; pair_room = refl; visits = refl; visit_room = refl; copied = λ j. refl; visit = λ j. refl; held = h; pairs_held = p }
@@ -267,17 +224,11 @@ bind_step v w log a b p c s held i h bare e eA =
       )),
     )
 
-pub clash_atoms : (v : Shown) (w : Contents) (log : List Forward) (a b : Target) (c d : ℕ) → Ends (before v w log a b) (pair_of v a b) (Atom c) (Atom d) → c ≢ d → Outcome v w w log a b false
-clash_atoms v w log a b c d e n = record { popped = refl; clash = inl (c, d, e, n) }
-
-pub clash_place : (v : Shown) (w t : Contents) (log : List Forward) (a b : Target) (A c : ℕ) → Ends (before v w log a b) (pair_of v a b) (Node A) (Atom c) → ((x : ℕ) × (y : Value) × Has (both v w A) x y) → Outcome v w t log a b false
-clash_place v w t log a b A c e h = record { popped = refl; clash = inr (A, c, h.0, h.1, e, h.2) }
-
 -- what a bind comes to
 pub bind_outcome : (v : Shown) (w t : Contents) (log : List Forward) (a b : Target) (p : Place) (c : ℕ) (r : Bool) → IsShown v → AreHeld v w → IsHeld v p.block p.offset → HasLog v w log → BoundOrNot v w t p c r
     → Ends (before v w log a b) (pair_of v a b) (Node (key v p)) (Atom c) → ends log (Node (key v p)) ≡ Node (key v p) → Outcome v w t log a b r
 bind_outcome v w t log a b p c true s held i h g e eA = subst (λ u. Outcome v w u log a b true) (sym g.1) (bind_step v w log a b p c s held i h g.0 e eA)
-bind_outcome v w t log a b p c false s held i h g e eA = clash_place v w t log a b (key v p) c e g.0
+bind_outcome v w t log a b p c false s held i h g e eA = record { popped = refl; clash = inr (key v p, c, g.0.0, g.0.1, e, g.0.2) }
 
 pub bind_keeps : (v : Shown) (w t : Contents) (p : Place) (c : ℕ) (r : Bool) → IsShown v → AreHeld v w → PairsHeld v w.pairs → IsHeld v p.block p.offset → BoundOrNot v w t p c r → IsSteady v w t
 bind_keeps v w t p c true s h ph i g = subst (IsSteady v w) (sym g.1) (bind_steady v w p c s h ph i)
@@ -286,5 +237,5 @@ bind_keeps v w t p c false s h ph i g = subst (IsSteady v w) (sym g.1) (same_ste
 pub atoms_outcome : (v : Shown) (w : Contents) (log : List Forward) (a b : Target) (c d : ℕ) (r : Bool) → HasLog v w log → r ≡ nat_eq c d → ends log (value_at v a) ≡ Atom c → ends log (value_at v b) ≡ Atom d → Outcome v w w log a b r
 atoms_outcome v w log a b c d r h q ea eb = elim (cases_eq c d) [
   | inl e ↦ subst (Outcome v w w log a b) (sym (q ∙ eq-eqb c d e)) (skip_step v w log a b h (ea ∙ (ap Atom e ∙ sym eb)))
-  | inr n ↦ subst (Outcome v w w log a b) (sym (q ∙ ne_eqb c d n)) (clash_atoms v w log a b c d (inl (ea, eb)) n)
+  | inr n ↦ subst (Outcome v w w log a b) (sym (q ∙ ne_eqb c d n)) (record { popped = refl; clash = inl (c, d, inl (ea, eb), n) })
 ]

@@ -14,7 +14,7 @@ use Rattle.patr_unify.specs.declared.cursor.Cursor.{Cursor}
 use Rattle.patr_unify.specs.declared.cursor.Cursor.TheVariants as cursor
 use Rattle.patr_unify.specs.Reading.{arcs_at, key, marks_of, slot_of}
 use Rattle.patr_unify.specs.Walking.{AreBelow, ArePaused, HasArcAt, HasVisit, IsPaused, IsPutOn, IsTakenFrom, IsVisited, StandsFor, cursor_of, cursors_of, end_value, first, rest_at, stack_of, visit_of}
-use Rattle.patr_unify.proofs.Worked.{IsWorked, worked_added, worked_both, worked_end}
+use Rattle.patr_unify.proofs.Worked.{IsWorked, still_worked, worked_added, worked_both, worked_end}
 
 -- the stack
 pub stack_popped : (v : Shown) (ps : List Place) (p : Place) → stack_of v (ps ++ p ∷ []) ≡ key v p ∷ stack_of v ps
@@ -38,7 +38,7 @@ pub record IsOnward (v : Shown) (passed : Visit) (t : Contents) (u : Contents) :
 -- one visit is set, to the one that is passed over or from another one
 pub onward_visited : (v : Shown) (passed : Visit) (t u : Contents) (k : ℕ) (state : Visit) → IsVisited v t u k state → (visit_of v t k ≡ passed → state ≡ passed) → IsOnward v passed t u
 onward_visited v passed t u k state set f = record {
-  still = record { places = set.still.places; pair_room = set.still.pair_room; visit_room = set.still.visit_room; forward = set.still.forward; added = set.still.added };
+  still = still_worked t u set.still;
   visit = λ j h. elim (cases_eq j k) [ inl e ↦ ap (visit_of v u) e ∙ (set.here ∙ f (ap (visit_of v t) (sym e) ∙ h)) | inr ne ↦ set.others j ne ∙ h ];
 }
 

@@ -9,8 +9,7 @@ use Rattle.patr_scratch.specs.declared.Side.{Side}
 use Rattle.patr_scratch.specs.declared.Place.{Place}
 use Rattle.patr_scratch.specs.declared.Target.{Target}
 use Rattle.patr_scratch.specs.declared.Target.TheVariants as target
-use Rattle.patr_scratch.specs.Contents.{Link}
-use Rattle.patr_scratch.specs.Contents.{PlaceMarks, Contents, unmarked, slot, marks, put, with_moved, HasPlace, HasCell, EndsOrHas, after, from_cell}
+use Rattle.patr_scratch.specs.Contents.{Link, PlaceMarks, Contents, unmarked, slot, marks, put, with_moved, HasPlace, HasCell, EndsOrHas, after, from_cell}
 use Rattle.patr_unify.specs.Reading.{key, value_at, TargetIsHeld, slot_of, marks_in, option_at, arcs_at, added_of, pairs_at, LinksHeld, PairsHeld, OptionIsHeld, AreHeld, has_link}
 use Rattle.patr_unify.specs.Merging.{both, one_pair, IsTaken, HasMergeRoom, IsMerged, IsPushed}
 use Rattle.patr_unify.proofs.Keys.{key_slot, key_marks, key_room, slot_one, has_links}
@@ -122,14 +121,14 @@ added_fits v w t A B n h r =
 abbrev pub merged_by : Contents → Side → ℕ → Side → ℕ → Target → Contents
 merged_by u s m d n to = put (with_moved u s m d n) s m (record (marks (with_moved u s m d n) s m) { forward = Some to })
 
-abbrev pub MergedAt : Contents → Contents → ℕ → ℕ → Target → ℕ → Type 0
-MergedAt u y J K to j =
-    ((j ≡ J) × (marks_in y j ≡ record (marks_in u J) { forward = Some to; added = [] }))
-    ⊎ (((j ≡ K) × (j ≢ J) × (marks_in y j ≡ record (marks_in u K) { added = (marks_in u J).added ++ (marks_in u K).added }))
-    ⊎ ((j ≢ J) × (j ≢ K) × (marks_in y j ≡ marks_in u j)))
+-- they change the marks of two places
+pub record MergedAt (u : Contents) (y : Contents) (J : ℕ) (K : ℕ) (to : Target) : Type 0 where
+  pub here : marks_in y J ≡ record (marks_in u J) { forward = Some to; added = [] }
+  pub there : marks_in y K ≡ record (marks_in u K) { added = (marks_in u J).added ++ (marks_in u K).added }
+  pub others : (j : ℕ) → j ≢ J → j ≢ K → marks_in y j ≡ marks_in u j
 
-pub merged_at : (u : Contents) (s d : Side) (m n : ℕ) (to : Target) (j : ℕ) → HasPlace u s m → HasPlace u d n → slot s m ≢ slot d n → MergedAt u (merged_by u s m d n to) (slot s m) (slot d n) to j
-merged_at u s d m n to j hJ hK ne =
+pub merged_at : (u : Contents) (s d : Side) (m n : ℕ) (to : Target) → HasPlace u s m → HasPlace u d n → slot s m ≢ slot d n → MergedAt u (merged_by u s m d n to) (slot s m) (slot d n) to
+merged_at u s d m n to hJ hK ne =
     let J = slot s m in
     let K = slot d n in
     let mB : PlaceMarks = record (marks_in u K) { added = (marks_in u J).added ++ (marks_in u K).added } in
@@ -140,15 +139,12 @@ merged_at u s d m n to j hJ hK ne =
     let l1 : J < length one = omega (arith, hJ, length-set u.places K mB) in
     let l2 : J < length two = omega (arith, l1, length-set one J mA) in
     let at_J : get_or two J unmarked ≡ mA = get_or-set_same one J mA unmarked l1 in
-    elim (cases_eq j J) [
-      | inl e ↦ inl (e, ap (λ i. get_or (set two J last) i unmarked) e ∙ (get_or-set_same two J last unmarked l2 ∙ ap (λ (p : PlaceMarks). (let q : PlaceMarks = record p { forward = Some to } in q)) at_J))
-      | inr nJ ↦
-          let step : get_or (set two J last) j unmarked ≡ get_or one j unmarked = get_or-set_other two J j last unmarked nJ ∙ get_or-set_other one J j mA unmarked nJ in
-          elim (cases_eq j K) [
-            | inl e ↦ inr (inl (e, nJ, step ∙ (ap (λ i. get_or one i unmarked) e ∙ get_or-set_same u.places K mB unmarked hK)))
-            | inr nK ↦ inr (inr (nJ, nK, step ∙ get_or-set_other u.places K j mB unmarked nK))
-          ]
-    ]
+    let past : (j : ℕ) → j ≢ J → get_or (set two J last) j unmarked ≡ get_or one j unmarked = λ j nJ. get_or-set_other two J j last unmarked nJ ∙ get_or-set_other one J j mA unmarked nJ in
+    record {
+      here = get_or-set_same two J last unmarked l2 ∙ ap (λ (p : PlaceMarks). (let q : PlaceMarks = record p { forward = Some to } in q)) at_J;
+      there = past K (λ e. ne (sym e)) ∙ get_or-set_same u.places K mB unmarked hK;
+      others = λ j nJ nK. past j nJ ∙ get_or-set_other u.places K j mB unmarked nK;
+    }
 
 links_append_held : (v : Shown) (ls ms : List Link) → LinksHeld v ls → LinksHeld v ms → LinksHeld v (ls ++ ms)
 links_append_held v [] ms h k = k
@@ -158,12 +154,13 @@ arcs_append : (v : Shown) (ls ms : List Link) → arcs_at v (ls ++ ms) ≡ arcs_
 arcs_append v [] ms = refl
 arcs_append v (l ∷ ls) ms = ap (λ es. (let r : Arc = record { attribute = l.attribute; to = value_at v l.to } in r) ∷ es) (arcs_append v ls ms)
 
--- a field that the merge leaves
-merged_field : {T : Type 0} (f : PlaceMarks → T) (u y : Contents) (J K : ℕ) (to : Target) → f (record (marks_in u J) { forward = Some to; added = [] }) ≡ f (marks_in u J)
-    → f (record (marks_in u K) { added = (marks_in u J).added ++ (marks_in u K).added }) ≡ f (marks_in u K) → (j : ℕ) → MergedAt u y J K to j → f (marks_in y j) ≡ f (marks_in u j)
-merged_field f u y J K to eJ eK j (inl g) = ap f g.1 ∙ (eJ ∙ ap (λ i. f (marks_in u i)) (sym g.0))
-merged_field f u y J K to eJ eK j (inr (inl g)) = ap f g.2 ∙ (eK ∙ ap (λ i. f (marks_in u i)) (sym g.0))
-merged_field f u y J K to eJ eK j (inr (inr g)) = ap f g.2
+-- what holds of all marks before, and of those of the two, holds of all
+merged_all : (P : ℕ → PlaceMarks → Type 0) (u y : Contents) (J K : ℕ) (to : Target) → MergedAt u y J K to → P J (record (marks_in u J) { forward = Some to; added = [] })
+    → P K (record (marks_in u K) { added = (marks_in u J).added ++ (marks_in u K).added }) → ((j : ℕ) → P j (marks_in u j)) → (j : ℕ) → P j (marks_in y j)
+merged_all P u y J K to m a b o j = elim (cases_eq j J) [
+  | inl e ↦ subst (λ i. P i (marks_in y i)) (sym e) (subst (P J) (sym m.here) a)
+  | inr nJ ↦ elim (cases_eq j K) [ inl e ↦ subst (λ i. P i (marks_in y i)) (sym e) (subst (P K) (sym m.there) b) | inr nK ↦ subst (P j) (sym (m.others j nJ nK)) (o j) ]
+]
 
 pub merged : (v : Shown) (w t u x y : Contents) (from to : Place) (source destination : ℕ) → IsShown v → IsHeld v from.block from.offset → IsHeld v to.block to.offset → key v from ≢ key v to
     → source ≡ number_of v from.block from.offset → destination ≡ number_of v to.block to.offset
@@ -175,83 +172,54 @@ merged v w t u x y from to source destination s hA hB ne eA eB h g mx my =
     let n = length v.structure in
     let J = slot from.side source in
     let K = slot to.side destination in
-    let z = merged_by u from.side source to.side destination (target.Place to) in
-    let is : y ≡ z = my ∙ ap (λ (q : Contents). put q from.side source (record (marks q from.side source) { forward = Some (target.Place to) })) mx in
+    let f : Contents = record t { pairs = u.pairs } in
+    let z = merged_by f from.side source to.side destination (target.Place to) in
+    let is : y ≡ z =
+    my ∙ (ap (λ (q : Contents). put q from.side source (record (marks q from.side source) { forward = Some (target.Place to) })) mx ∙ ap (λ (q : Contents). merged_by q from.side source to.side destination (target.Place to)) g.rest) in
     let sJ : slot_of n A ≡ J = key_slot v s from hA ∙ ap (slot from.side) (sym eA) in
     let sK : slot_of n B ≡ K = key_slot v s to hB ∙ ap (slot to.side) (sym eB) in
     let JK : J ≢ K = λ q. ne (slot_one n A B (sJ ∙ (q ∙ sym sK))) in
     let roomA = key_room v t s h.held from hA in
     let roomB = key_room v t s h.held to hB in
-    let places : length u.places ≡ length t.places = ap (λ (q : Contents). length q.places) g.rest in
-    let hJ : HasPlace u from.side source = omega (arith, roomA, sJ, places) in
-    let hK : HasPlace u to.side destination = omega (arith, roomB, sK, places) in
-    let at' : (j : ℕ) → MergedAt u z J K (target.Place to) j = λ j. merged_at u from.side to.side source destination (target.Place to) j hJ hK JK in
-    let in_u : (j : ℕ) → marks_in u j ≡ marks_in t j = λ j. ap (λ (q : Contents). marks_in q j) g.rest in
-    let held_J : LinksHeld v (marks_in u J).added = subst (λ (p : PlaceMarks). LinksHeld v p.added) (sym (in_u J)) (h.held.added J) in
-    let held_K : LinksHeld v (marks_in u K).added = subst (λ (p : PlaceMarks). LinksHeld v p.added) (sym (in_u K)) (h.held.added K) in
-    let at_J : marks_in z J ≡ record (marks_in u J) { forward = Some (target.Place to); added = [] } = only_J u z J K (at' J) in
-    let at_K : marks_in z K ≡ record (marks_in u K) { added = (marks_in u J).added ++ (marks_in u K).added } = only_K u z J K JK (at' K) in
-    let others : (k : ℕ) → k ≢ A → k ≢ B → marks_in z (slot_of n k) ≡ marks_in t (slot_of n k) = λ k nA nB.
-    only_other u z J K (slot_of n k) (λ q. nA (slot_one n k A (q ∙ sym sJ))) (λ q. nB (slot_one n k B (q ∙ sym sK))) (at' (slot_of n k)) ∙ in_u (slot_of n k) in
-    let mB : PlaceMarks = record (marks_in u K) { added = (marks_in u J).added ++ (marks_in u K).added } in
-    let mA : PlaceMarks = record (marks_in u J) { added = [] } in
+    let hJ : HasPlace f from.side source = omega (arith, roomA, sJ) in
+    let hK : HasPlace f to.side destination = omega (arith, roomB, sK) in
+    let m = merged_at f from.side to.side source destination (target.Place to) hJ hK JK in
+    let others : (k : ℕ) → k ≢ A → k ≢ B → marks_in z (slot_of n k) ≡ marks_in t (slot_of n k) =
+    λ k nA nB. m.others (slot_of n k) (λ q. nA (slot_one n k A (q ∙ sym sJ))) (λ q. nB (slot_one n k B (q ∙ sym sK))) in
+    let mB : PlaceMarks = record (marks_in t K) { added = (marks_in t J).added ++ (marks_in t K).added } in
+    let mA : PlaceMarks = record (marks_in t J) { added = [] } in
+    let places : length z.places ≡ length t.places =
+    length-set (set (set t.places K mB) J mA) J (record (get_or (set (set t.places K mB) J mA) J unmarked) { forward = Some (target.Place to) }) ∙ (length-set (set t.places K mB) J mA ∙ length-set t.places K mB) in
     subst (λ q. IsMerged v w q A B) (sym is) (record {
-      places =
-          length-set (set (set u.places K mB) J mA) J (record (get_or (set (set u.places K mB) J mA) J unmarked) { forward = Some (target.Place to) })
-          ∙ (length-set (set u.places K mB) J mA ∙ (length-set u.places K mB ∙ (places ∙ h.kept.places)));
-      arc_room = ap (λ (q : Contents). q.arc_room) g.rest ∙ h.kept.arc_room;
-      pair_room = ap (λ (q : Contents). q.pair_room) g.rest ∙ h.kept.pair_room;
-      visits = ap (λ (q : Contents). q.visits) g.rest ∙ h.kept.visits;
-      visit_room = ap (λ (q : Contents). q.visit_room) g.rest ∙ h.kept.visit_room;
-      copied = λ j. merged_field (λ (p : PlaceMarks). p.copied) u z J K (target.Place to) refl refl j (at' j) ∙ (ap (λ (p : PlaceMarks). p.copied) (in_u j) ∙ h.kept.copied j);
-      visit = λ j. merged_field (λ (p : PlaceMarks). p.visit) u z J K (target.Place to) refl refl j (at' j) ∙ (ap (λ (p : PlaceMarks). p.visit) (in_u j) ∙ h.kept.visit j);
+      places = places ∙ h.kept.places;
+      arc_room = h.kept.arc_room;
+      pair_room = h.kept.pair_room;
+      visits = h.kept.visits;
+      visit_room = h.kept.visit_room;
+      copied = λ j. merged_all (λ (j : ℕ) (p : PlaceMarks). p.copied ≡ (marks_in t j).copied) f z J K (target.Place to) m refl refl (λ j. refl) j ∙ h.kept.copied j;
+      visit = λ j. merged_all (λ (j : ℕ) (p : PlaceMarks). p.visit ≡ (marks_in t j).visit) f z J K (target.Place to) m refl refl (λ j. refl) j ∙ h.kept.visit j;
       pairs = g.pairs ∙ (ap (λ ps. pairs_at v t.pairs ++ ps) (taken_matches v w t A B ne h) ∙ h.pairs);
-      forward = ap (λ i. option_at v (marks_in z i).forward) sJ ∙ ap (λ (p : PlaceMarks). option_at v p.forward) at_J;
+      forward = ap (λ i. option_at v (marks_in z i).forward) sJ ∙ ap (λ (p : PlaceMarks). option_at v p.forward) m.here;
       forwards = λ k nA. elim (cases_eq k B) [
         | inl e ↦
-            ap (λ i. option_at v (marks_in z (slot_of n i)).forward) e ∙ (ap (λ i. option_at v (marks_in z i).forward) sK ∙ (ap (λ (p : PlaceMarks). option_at v p.forward) at_K
-            ∙ (ap (λ (p : PlaceMarks). option_at v p.forward) (in_u K) ∙ (ap (option_at v) (h.kept.forward K) ∙ (ap (λ i. option_at v (marks_in w i).forward) (sym sK) ∙ ap (λ i. option_at v (marks_in w (slot_of n i)).forward) (sym e))))))
+            ap (λ i. option_at v (marks_in z (slot_of n i)).forward) e ∙ (ap (λ i. option_at v (marks_in z i).forward) sK ∙ (ap (λ (p : PlaceMarks). option_at v p.forward) m.there
+            ∙ (ap (option_at v) (h.kept.forward K) ∙ (ap (λ i. option_at v (marks_in w i).forward) (sym sK) ∙ ap (λ i. option_at v (marks_in w (slot_of n i)).forward) (sym e)))))
         | inr nB ↦ ap (λ (p : PlaceMarks). option_at v p.forward) (others k nA nB) ∙ ap (option_at v) (h.kept.forward (slot_of n k))
       ];
-      emptied = ap (λ i. arcs_at v (marks_in z i).added) sJ ∙ ap (λ (p : PlaceMarks). arcs_at v p.added) at_J;
+      emptied = ap (λ i. arcs_at v (marks_in z i).added) sJ ∙ ap (λ (p : PlaceMarks). arcs_at v p.added) m.here;
       added =
-          ap (λ i. arcs_at v (marks_in z i).added) sK ∙ (ap (λ (p : PlaceMarks). arcs_at v p.added) at_K ∙ (arcs_append v (marks_in u J).added (marks_in u K).added
-          ∙ (ap (λ es. es ++ arcs_at v (marks_in u K).added) (ap (λ (p : PlaceMarks). arcs_at v p.added) (in_u J) ∙ (ap (λ i. arcs_at v (marks_in t i).added) (sym sJ) ∙ h.others A ne))
-          ∙ ap (λ es. added_of v w A ++ es) (ap (λ (p : PlaceMarks). arcs_at v p.added) (in_u K) ∙ (ap (λ i. arcs_at v (marks_in t i).added) (sym sK) ∙ h.added)))));
+          ap (λ i. arcs_at v (marks_in z i).added) sK ∙ (ap (λ (p : PlaceMarks). arcs_at v p.added) m.there ∙ (arcs_append v (marks_in t J).added (marks_in t K).added
+          ∙ (ap (λ es. es ++ arcs_at v (marks_in t K).added) (ap (λ i. arcs_at v (marks_in t i).added) (sym sJ) ∙ h.others A ne)
+          ∙ ap (λ es. added_of v w A ++ es) (ap (λ i. arcs_at v (marks_in t i).added) (sym sK) ∙ h.added))));
       others = λ k nA nB. ap (λ (p : PlaceMarks). arcs_at v p.added) (others k nA nB) ∙ h.others k nB;
-      arcs = omega (arith, ap (λ (q : Contents). q.arcs) g.rest, h.arcs);
+      arcs = omega (arith, h.arcs);
       held = record {
-        room = omega (arith, h.held.room, places, length-set (set (set u.places K mB) J mA) J (record (get_or (set (set u.places K mB) J mA) J unmarked) { forward = Some (target.Place to) }), length-set (set u.places K mB) J mA, length-set u.places K mB);
-        forwards = λ j. forwards_held u z J K hB j (at' j) (subst (λ (p : PlaceMarks). OptionIsHeld v p.forward) (sym (in_u j)) (h.held.forwards j)) (subst (λ (p : PlaceMarks). OptionIsHeld v p.forward) (sym (in_u K)) (h.held.forwards K));
-        added = λ j. added_held u z J K j (at' j) held_J held_K (subst (λ (p : PlaceMarks). LinksHeld v p.added) (sym (in_u j)) (h.held.added j));
+        room = omega (arith, h.held.room, places);
+        forwards = merged_all (λ (j : ℕ) (p : PlaceMarks). OptionIsHeld v p.forward) f z J K (target.Place to) m hB (h.held.forwards K) h.held.forwards;
+        added = merged_all (λ (j : ℕ) (p : PlaceMarks). LinksHeld v p.added) f z J K (target.Place to) m tt (links_append_held v (marks_in t J).added (marks_in t K).added (h.held.added J) (h.held.added K)) h.held.added;
       };
       pairs_held = g.held;
     })
-  where
-    only_J : (u z : Contents) (J K : ℕ) → MergedAt u z J K (target.Place to) J → marks_in z J ≡ record (marks_in u J) { forward = Some (target.Place to); added = [] }
-    only_J u z J K (inl g) = g.1
-    only_J u z J K (inr (inl g)) = absurd (g.1 refl)
-    only_J u z J K (inr (inr g)) = absurd (g.0 refl)
-
-    only_K : (u z : Contents) (J K : ℕ) → J ≢ K → MergedAt u z J K (target.Place to) K → marks_in z K ≡ record (marks_in u K) { added = (marks_in u J).added ++ (marks_in u K).added }
-    only_K u z J K n (inl g) = absurd (n (sym g.0))
-    only_K u z J K n (inr (inl g)) = g.2
-    only_K u z J K n (inr (inr g)) = absurd (g.1 refl)
-
-    only_other : (u z : Contents) (J K j : ℕ) → j ≢ J → j ≢ K → MergedAt u z J K (target.Place to) j → marks_in z j ≡ marks_in u j
-    only_other u z J K j nJ nK (inl g) = absurd (nJ g.0)
-    only_other u z J K j nJ nK (inr (inl g)) = absurd (nK g.0)
-    only_other u z J K j nJ nK (inr (inr g)) = g.2
-
-    forwards_held : (u z : Contents) (J K : ℕ) → IsHeld v to.block to.offset → (j : ℕ) → MergedAt u z J K (target.Place to) j → OptionIsHeld v (marks_in u j).forward → OptionIsHeld v (marks_in u K).forward → OptionIsHeld v (marks_in z j).forward
-    forwards_held u z J K hB j (inl g) h k = subst (λ (p : PlaceMarks). OptionIsHeld v p.forward) (sym g.1) hB
-    forwards_held u z J K hB j (inr (inl g)) h k = subst (λ (p : PlaceMarks). OptionIsHeld v p.forward) (sym g.2) k
-    forwards_held u z J K hB j (inr (inr g)) h k = subst (λ (p : PlaceMarks). OptionIsHeld v p.forward) (sym g.2) h
-
-    added_held : (u z : Contents) (J K j : ℕ) → MergedAt u z J K (target.Place to) j → LinksHeld v (marks_in u J).added → LinksHeld v (marks_in u K).added → LinksHeld v (marks_in u j).added → LinksHeld v (marks_in z j).added
-    added_held u z J K j (inl g) a b h = subst (λ (p : PlaceMarks). LinksHeld v p.added) (sym g.1) tt
-    added_held u z J K j (inr (inl g)) a b h = subst (λ (p : PlaceMarks). LinksHeld v p.added) (sym g.2) (links_append_held v (marks_in u J).added (marks_in u K).added a b)
-    added_held u z J K j (inr (inr g)) a b h = subst (λ (p : PlaceMarks). LinksHeld v p.added) (sym g.2) h
 
 -- pushing pairs leaves the room for places
 pub pushed_room : (v : Shown) (t u : Contents) (p : Place) (number : ℕ) → IsShown v → AreHeld v t → IsHeld v p.block p.offset → number ≡ number_of v p.block p.offset → u ≡ record t { pairs = u.pairs } → HasPlace u p.side number

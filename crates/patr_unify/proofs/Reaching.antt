@@ -1,7 +1,5 @@
 -- The ends of settled marks are reached from the left side's end, and which places a copy may keep.
 use Rattle.std.proofs.Common.{◌≡◌, ℕ, zero, suc, ◌+◌, ◌-◌, ◌<◌, inl, inr, true, false, cond, nat_lt, Option, Some, None, List, [], ◌∷◌, length, refl, sym, ap, ◌∙◌, subst, arith}
-use Rattle.patr_model.proofs.EquationStructures.{at_below}
-use Rattle.patr_lists.proofs.Places.{below_or_behind}
 use Rattle.patr_model.specs.Structure.{Value, Atom, Node, Structure, IsReached, arc, at}
 use Rattle.patr_model.specs.Settled.{IsSideNode}
 use Rattle.patr_model.proofs.Maps.{and_then_some, some_inj}
@@ -9,11 +7,11 @@ use Rattle.patr_marks.specs.Machine.{Has, Within, own}
 use Rattle.patr_marks.specs.Named.{IsFree, side_of}
 use Rattle.patr_marks.specs.Settled.{Fits, IsEndNode, IsFinal, IsSettled, IsTidy}
 use Rattle.patr_marks.specs.Sides.{IsSide, shift, sides}
+use Rattle.patr_marks.proofs.Follow.{settled_within}
 use Rattle.patr_marks.proofs.Copied.{end_facts, one_end}
-use Rattle.patr_marks.proofs.Named.{root_within, reached_below, side_left, side_right, side_to}
-use Rattle.patr_marks.proofs.Numbers.{numbers_settle}
+use Rattle.patr_marks.proofs.Named.{path_below, root_within, reached_below, side_left, side_right, side_to}
 use Rattle.patr_marks.proofs.Settles.{follow_final}
-use Rattle.patr_marks.proofs.Sides.{sides_least}
+use Rattle.patr_marks.proofs.Sides.{below_or_behind, sides_least}
 use Rattle.patr_marks.proofs.Unifier.{side_closed}
 use Rattle.patr_marks.proofs.Walk.{rank, rank_arc}
 use Rattle.patr_arena.specs.Shown.{Shown, IsShown}
@@ -25,32 +23,15 @@ use Rattle.patr_unify.specs.Deciding.{IsEndIn, IsEndOfLeft, IsSettledFor, marks_
 use Rattle.patr_unify.specs.Merging.{both}
 use Rattle.patr_unify.specs.Reading.{forward_of}
 use Rattle.patr_unify.specs.Walking.{AllEnd, end_value, visit_of}
-use Rattle.patr_unify.proofs.Walks.{one_end as one_final}
+use Rattle.patr_unify.proofs.Keeping.{free_behind}
+use Rattle.patr_unify.proofs.Keys.{lt_true}
 
--- the marks of a settled scratch, by number, where forwards are followed as far as there is room for pairs
-abbrev pub stepped : (v : Shown) (w : Contents) (l : ℕ) (p : List ℕ) (r : Value) → AllEnd v w → IsSettled v.structure l p r (marks_by v w) → IsSettled v.structure l p r (marks_by v w)
-stepped v w l p r all i = record {
-  unifier = i.unifier;
-  top = i.top;
-  is_unifier = i.is_unifier;
-  steps = w.pair_room;
-  image = i.image;
-  atoms = i.atoms;
-  held = i.held;
-  root = i.root;
-  right = i.right;
-  ended = λ k h. subst (λ x. IsFinal (forward_of v w) x × Within (IsSide v.structure l r) x × (i.image x ≡ i.image (Node k))) (one_final (forward_of v w) i.steps w.pair_room (Node k) (i.ended k h).0 (all (Node k))) (i.ended k h);
-  node = i.node;
-  apart = i.apart;
-  arcs = i.arcs;
-  only = i.only;
-}
-
+-- the marks of a settled scratch, where forwards are followed as far as there is room for pairs
 abbrev pub numbered : (v : Shown) (s : IsShown v) (w : Contents) (l : ℕ) (p : List ℕ) (r : Value) → l < length v.structure → IsSettledFor v w l p r → IsSettled v.structure l p r (marks_by v w)
-numbered v s w l p r hl i = stepped v w l p r i.ending (numbers_settle v.structure l p r (marks_by v w) s.structure hl i.at_sides i.marks).0
+numbered v s w l p r hl i = settled_within v.structure l p r (marks_by v w) i.marks w.pair_room (λ k h. i.ending (Node k))
 
 pub tidy : (v : Shown) (s : IsShown v) (w : Contents) (l : ℕ) (p : List ℕ) (r : Value) (hl : l < length v.structure) (i : IsSettledFor v w l p r) → IsTidy v.structure l p r (marks_by v w) (numbered v s w l p r hl i)
-tidy v s w l p r hl i = let t = (numbers_settle v.structure l p r (marks_by v w) s.structure hl i.at_sides i.marks).1 in record { own_arcs = t.own_arcs; sides_only = t.sides_only }
+tidy v s w l p r hl i = record { own_arcs = i.tidy.own_arcs; sides_only = i.tidy.sides_only; sides_added = i.tidy.sides_added }
 
 module _ (v : Shown) (s : IsShown v) (w : Contents) (l : ℕ) (p : List ℕ) (r : Value) (hl : l < length v.structure) (set : IsSettledFor v w l p r) where
   abbrev S : Structure
@@ -167,33 +148,19 @@ module _ (v : Shown) (s : IsShown v) (w : Contents) (l : ℕ) (p : List ℕ) (r 
   taken None visit.Left f = refl
   taken (Some x) state f = refl
 
-  behind_free : (k : ℕ) → free_of v w (length v.structure + k) ≡ stays_free (forward_of v w k) (visit_of v w k)
-  behind_free k =
-      ap (λ b. cond b true (stays_free (forward_of v w ((length S + k) - length S)) (visit_of v w ((length S + k) - length S)))) (not_below (length S) k)
-      ∙ ap (λ j. stays_free (forward_of v w j) (visit_of v w j)) (back (length S) k)
-    where
-      not_below : (n k : ℕ) → nat_lt (n + k) n ≡ false
-      not_below n k = grind arith
-
-      back : (n k : ℕ) → (n + k) - n ≡ k
-      back n k = omega arith
-
   reached_left : (k : ℕ) → k < length v.structure → IsSide v.structure l r k → IsReached v.structure (Node l) k
   reached_left k h n = subst (IsSideNode S (Node l) S r) (side_left (length S) k h) (side_to S s.structure l r hl k n)
 
   pub is_free : IsFree v.structure l r (free_of v w)
   is_free = record {
-    left = λ k h. (let below = reached_below S s.structure l k hl h in ap (λ b. cond b true (stays_free (forward_of v w (k - length S)) (visit_of v w (k - length S)))) (under k (length S) below));
-    right = λ k h n. behind_free k ∙ forward_or (forward_of v w k) (visit_of v w k)
-        (λ x e. n (reached_left k (right_below k h) (set.at_sides.forward k x e)))
+    left = λ k h. (let below = reached_below S s.structure l k hl h in ap (λ b. cond b true (stays_free (forward_of v w (k - length S)) (visit_of v w (k - length S)))) (lt_true k (length S) below));
+    right = λ k h n. free_behind v w k ∙ forward_or (forward_of v w k) (visit_of v w k)
+        (λ x e. n (reached_left k (right_below k h) (set.tidy.sides_only k x e)))
         (set.unseen k (λ e. n (reached_left k (right_below k h) (reached_is_end e.0 k e.1).0)));
   }
     where
-      under : (k n : ℕ) → k < n → nat_lt k n ≡ true
-      under k n h = grind arith
-
       right_below : (k : ℕ) → IsReached v.structure r k → k < length v.structure
-      right_below k h = at_below S s.structure (length S) h.0 r (Node k) set.right h.1
+      right_below k h = path_below S s.structure (length S) h.0 r (Node k) set.right h.1
 
   pub copy_fits : Fits (IsSide v.structure l r) (copying_by v w)
   copy_fits = record {
@@ -203,9 +170,9 @@ module _ (v : Shown) (s : IsShown v) (w : Contents) (l : ℕ) (p : List ℕ) (r 
       | inl b ↦ omega (arith, b)
       | inr b ↦
           let there = subst (IsSideNode S (Node l) S r) (ap (side_of (length S)) b.1 ∙ side_right (length S) b.0) (side_to S s.structure l r hl k h) in
-          let low = at_below S s.structure (length S) there.0 r (Node b.0) set.right there.1 in
+          let low = path_below S s.structure (length S) there.0 r (Node b.0) set.right there.1 in
           let e = b.1 in
           omega (arith, low, e)
     ];
-    free_is = λ k h b. behind_free k ∙ taken (forward_of v w k) (visit_of v w k) (λ e. set.left k (subst (Within (IsEndOfLeft v w l)) (follow_final w.pair_room (forward_of v w) (Node k) e) (all_reached k h)));
+    free_is = λ k h g b. free_behind v w k ∙ taken (forward_of v w k) (visit_of v w k) (λ e. set.left k (subst (Within (IsEndOfLeft v w l)) (follow_final w.pair_room (forward_of v w) (Node k) e) (all_reached k h)));
   }

@@ -1,14 +1,22 @@
--- Visits are set, and the stack of visits changes.
-use Rattle.std.proofs.Common.{◌≡◌, ℕ, ◌+◌, ◌<◌, ◌≤◌, List, [], ◌∷◌, ◌++◌, length, length-append, length-set, get_or-set_same, get_or-set_other, refl, sym, ap, ◌∙◌, subst, arith, append_assoc}
-use Rattle.patr_arena.specs.Shown.{Shown, IsShown, IsHeld, number_of}
+-- Visits are set, and copies are marked.
+use Rattle.std.proofs.Common.{◌≡◌, ℕ, ◌+◌, ◌<◌, ◌≤◌, List, [], ◌∷◌, ◌++◌, length, length-append, length-set, get_or-set_same, get_or-set_other, refl, sym, ap, ◌∙◌, subst, arith, append_assoc, suc, inl, inr, Some}
+use Rattle.patr_arena.specs.Shown.{Shown, IsShown, IsHeld, number_of, arcs_from}
 use Rattle.patr_scratch.specs.declared.Place.{Place}
 use Rattle.patr_scratch.specs.declared.Target.{Target}
 use Rattle.patr_scratch.specs.declared.Visit.{Visit}
 use Rattle.patr_scratch.specs.Contents.{PlaceMarks, Contents, unmarked, slot, marks, put}
-use Rattle.patr_unify.specs.Reading.{key, slot_of, marks_in, AreHeld}
+use Rattle.patr_unify.specs.Reading.{key, slot_of, marks_in, AreHeld, arcs_on}
 use Rattle.patr_unify.specs.Walking.{IsVisited}
-use Rattle.patr_unify.proofs.Keys.{key_slot, slot_one}
-use Rattle.patr_unify.proofs.Merges.{field_put, place_room}
+use Rattle.patr_unify.proofs.Keys.{key_slot, slot_one, own_key}
+use Rattle.patr_unify.proofs.Merges.{field_put, place_room, marks_put}
+use Rattle.patr_model.specs.Structure.{Arc}
+use Rattle.patr_marks.specs.Machine.{own}
+use Rattle.patr_marks.specs.Sides.{sides}
+use Rattle.patr_arena.specs.declared.value.Feature.{Feature}
+use Rattle.patr_scratch.specs.declared.Copied.{Copied}
+use Rattle.patr_scratch.specs.declared.Side.{Side}
+use Rattle.patr_scratch.specs.declared.Side.TheVariants as side
+use Rattle.patr_unify.specs.Copying.{IsCopyMarked}
 
 -- one visit is set
 pub visited : (v : Shown) (w t : Contents) (p : Place) (number : ℕ) (state : Visit) → IsShown v → AreHeld v w → IsHeld v p.block p.offset → number ≡ number_of v p.block p.offset
@@ -35,60 +43,38 @@ visited v w t p number state s a h e g =
 
 -- the stacks may change after it
 pub visited_then : (v : Shown) (w t u : Contents) (k : ℕ) (state : Visit) (ps : List Place) (qs : List (Target × Target)) → IsVisited v w t k state → u ≡ record t { visits = ps; pairs = qs } → IsVisited v w u k state
-visited_then v w t u k state ps qs h e = subst (λ z. IsVisited v w z k state) (sym e) (record {
-  still = record {
-    places = h.still.places;
-    arcs = h.still.arcs;
-    arc_room = h.still.arc_room;
-    pair_room = h.still.pair_room;
-    visit_room = h.still.visit_room;
-    forward = h.still.forward;
-    copied = h.still.copied;
-    added = h.still.added;
-  };
-  here = h.here;
-  others = h.others;
-})
+visited_then v w t u k state ps qs h e = subst (λ z. IsVisited v w z k state) (sym e) h
 
--- and before it
-pub visited_after : (v : Shown) (w u t : Contents) (k : ℕ) (state : Visit) (ps : List Place) (qs : List (Target × Target)) → u ≡ record w { visits = ps; pairs = qs } → IsVisited v u t k state → IsVisited v w t k state
-visited_after v w u t k state ps qs e h' =
-    let h = subst (λ z. IsVisited v z t k state) e h' in
-    record {
-      still = record {
-        places = h.still.places;
-        arcs = h.still.arcs;
-        arc_room = h.still.arc_room;
-        pair_room = h.still.pair_room;
-        visit_room = h.still.visit_room;
-        forward = h.still.forward;
-        copied = h.still.copied;
-        added = h.still.added;
-      };
-      here = h.here;
-      others = h.others;
-    }
+-- one copy is marked
+pub copy_marked : (v : Shown) (w t : Contents) (p : Place) (number : ℕ) (d : Copied) → IsShown v → AreHeld v w → IsHeld v p.block p.offset → number ≡ number_of v p.block p.offset
+    → t ≡ put w p.side number (record (marks w p.side number) { copied = Some d }) → IsCopyMarked v w t (key v p) d
+copy_marked v w t p number d s a h e g =
+    let m : PlaceMarks = record (marks w p.side number) { copied = Some d } in
+    let n = length v.structure in
+    let has = place_room v w s a p number h e in
+    let at : slot_of n (key v p) ≡ slot p.side number = key_slot v s p h ∙ ap (slot p.side) (sym e) in
+    subst (λ z. IsCopyMarked v w z (key v p) d) (sym g) (record {
+      places = length-set w.places (slot p.side number) m;
+      arcs = refl;
+      arc_room = refl;
+      pairs = refl;
+      pair_room = refl;
+      visits = refl;
+      visit_room = refl;
+      forward = field_put (λ (u : PlaceMarks). u.forward) w p.side number m has refl;
+      added = field_put (λ (u : PlaceMarks). u.added) w p.side number m has refl;
+      visit = field_put (λ (u : PlaceMarks). u.visit) w p.side number m has refl;
+      here = ap (λ j. (marks_in (put w p.side number m) j).copied) at ∙ ap (λ (u : PlaceMarks). u.copied) (get_or-set_same w.places (slot p.side number) m unmarked has);
+      others = λ j ne. ap (λ (u : PlaceMarks). u.copied) (get_or-set_other w.places (slot p.side number) (slot_of n j) m unmarked (λ q. ne (slot_one n j (key v p) (q ∙ sym at))));
+      each = λ j. elim (marks_put w p.side number m j has) [ inl q ↦ inl (ap (λ (u : PlaceMarks). u.copied) q.1) | inr q ↦ inr (ap (λ (u : PlaceMarks). u.copied) q.1) ];
+    })
 
--- a pair is pushed, and then a place
-pub stacks_pushed : (w u x : Contents) (a : Place) → u ≡ record w { pairs = u.pairs } → x ≡ record u { visits = u.visits ++ a ∷ [] } → x ≡ record w { visits = u.visits ++ a ∷ []; pairs = u.pairs }
-stacks_pushed w u x a e f = f ∙ ap (λ (z : Contents). record z { visits = u.visits ++ a ∷ [] }) e
-
--- and another place
-pub pushed_twice : (w u x t : Contents) (a b : Place) → u ≡ record w { pairs = u.pairs } → x ≡ record u { visits = u.visits ++ a ∷ [] } → t.visits ≡ x.visits ++ b ∷ [] → t.visits ≡ w.visits ++ a ∷ b ∷ []
-pushed_twice w u x t a b e f g =
-    let first = ap (λ (z : Contents). z.visits) f ∙ ap (λ (z : Contents). z.visits ++ a ∷ []) e in
-    g ∙ (ap (λ ps. ps ++ b ∷ []) first ∙ append_assoc w.visits (a ∷ []) (b ∷ []))
-
--- there is room for the one and for the other
-pub room_first : (w u : Contents) → length w.visits + 2 ≤ w.visit_room → u ≡ record w { pairs = u.pairs } → length u.visits < u.visit_room
-room_first w u h e =
-    let size = ap (λ (z : Contents). length z.visits) e in
-    let room = ap (λ (z : Contents). z.visit_room) e in
-    omega (arith, h, size, room)
-
-pub room_left : (w u x : Contents) (a : Place) → length w.visits + 2 ≤ w.visit_room → u ≡ record w { pairs = u.pairs } → x ≡ record u { visits = u.visits ++ a ∷ [] } → length x.visits < x.visit_room
-room_left w u x a h e f =
-    let first = ap (λ (z : Contents). length z.visits) e in
-    let size = ap (λ (z : Contents). length z.visits) f ∙ length-append u.visits (a ∷ []) in
-    let room = ap (λ (z : Contents). z.visit_room) f ∙ ap (λ (z : Contents). z.visit_room) e in
-    omega (arith, h, first, size, room)
+-- a place has as many arcs as its node
+pub own_length : (v : Shown) → IsShown v → (p : Place) (fs : List Feature) → IsHeld v p.block p.offset → arcs_from v p.block fs ≡ own v.structure (number_of v p.block p.offset) → length fs ≡ length (own (sides v.structure) (key v p))
+own_length v s p fs h e = sym (ap (length {A = Arc}) (own_key v s p h ∙ ap (arcs_on p.side (length v.structure)) (sym e)) ∙ on p.side (length v.structure) fs)
+  where
+    on : (d : Side) (n : ℕ) (fs : List Feature) → length (arcs_on d n (arcs_from v p.block fs)) ≡ length fs
+    on side.Left n [] = refl
+    on side.Left n (f ∷ fs) = ap suc (on side.Left n fs)
+    on side.Right n [] = refl
+    on side.Right n (f ∷ fs) = ap suc (on side.Right n fs)

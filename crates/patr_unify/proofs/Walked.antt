@@ -1,15 +1,13 @@
 -- The walk over the ends that the left side reaches, step by step.
 use Rattle.std.proofs.Common.{◌≡◌, ◌≢◌, ℕ, ◌+◌, ◌*◌, ◌<◌, ◌≤◌, ◌⊎◌, inl, inr, Option, Some, None, MatchOption, List, [], ◌∷◌, ◌++◌, length, length-append, refl, sym, ap, ◌∙◌, subst, arith}
 use Rattle.std.proofs.lemmas.Bool.{cases_eq}
-use Rattle.patr_lists.proofs.Totals.{total_change, upto_once, upto_in, total_ext}
-use Rattle.patr_lists.proofs.Members.{no_longer}
-use Rattle.patr_lists.specs.Members.{IsIn}
-use Rattle.patr_lists.specs.Numbers.{total, upto}
 use Rattle.patr_model.specs.Structure.{Value, Atom, Node}
-use Rattle.patr_marks.specs.Machine.{Forward, Has, arcs_at, ends, own}
+use Rattle.patr_marks.specs.Machine.{Forward, Has, IsIn, arcs_at, ends, own, total}
 use Rattle.patr_marks.specs.Quotient.{Below}
 use Rattle.patr_marks.specs.Sides.{sides}
 use Rattle.patr_marks.specs.Walk.{IsWalk, Leads, ReachedIn}
+use Rattle.patr_marks.proofs.Bounds.{stack_room}
+use Rattle.patr_marks.proofs.Room.{total_change}
 use Rattle.patr_marks.proofs.Walk.{walk_starts, walk_enters, walk_leaves, walk_done}
 use Rattle.patr_arena.specs.Shown.{Shown, IsShown, IsHeld}
 use Rattle.patr_scratch.specs.declared.Place.{Place}
@@ -17,13 +15,14 @@ use Rattle.patr_scratch.specs.declared.Target.{Target}
 use Rattle.patr_scratch.specs.declared.Visit.{Visit}
 use Rattle.patr_scratch.specs.declared.Visit.TheVariants as visit
 use Rattle.patr_scratch.specs.Contents.{Contents}
-use Rattle.patr_unify.specs.Reading.{AreHeld, LinksHeld, OptionIsHeld, IsEndOf, added_of, forward_of, key, marks_in, slot_of, state_of, value_at}
-use Rattle.patr_unify.specs.Reading.{option_at}
+use Rattle.patr_unify.specs.Reading.{AreHeld, LinksHeld, OptionIsHeld, IsEndOf, added_of, forward_of, key, marks_in, slot_of, state_of, value_at, option_at}
 use Rattle.patr_unify.specs.Reading as reading
 use Rattle.patr_unify.specs.Merging.{both}
-use Rattle.patr_unify.specs.Stepping.{HasLog}
+use Rattle.patr_unify.specs.Stepping.{HasLog, upto}
 use Rattle.patr_unify.specs.declared.cursor.Cursor.{Cursor}
 use Rattle.patr_unify.specs.Walking.{AllEnd, ArePaused, HasEntered, HasLeft, HasStack, HasVisit, HasVisitRoom, HasWalked, IsAtPlace, IsLedBack, IsOther, IsStill, IsTurned, IsVisited, IsWalkable, IsWalkedOff, LeadsBack, VisitsHeld, cursors_of, end_value, first, stack_of, to_visit, unseen_of, visit_of}
+use Rattle.patr_unify.proofs.Keys.{node_one}
+use Rattle.patr_unify.proofs.Running.{total_ext, upto_in, upto_once}
 use Rattle.patr_unify.proofs.Outcomes.{end_by_log, end_is, key_below, log_ends}
 use Rattle.patr_unify.proofs.Pauses.{none_paused, onward_visited, pairs_length, paused_popped, paused_starts, stack_length, stack_popped, stack_pushed, went_back, went_down}
 
@@ -87,26 +86,7 @@ held_pushed v [] qs h k = k
 held_pushed v (p ∷ ps) qs h k = (h.0, held_pushed v ps qs h.1 k)
 
 stack_moved : (v : Shown) (w t u : Contents) (l : ℕ) (i : IsWalkable v w l) (stack : List ℕ) (ps : List Place) → HasStack v w t l i stack → u ≡ record t { visits = ps } → HasStack v w u l i stack
-stack_moved v w t u l i stack ps h e = subst (λ z. HasStack v w z l i stack) (sym e) (record {
-  still = record {
-    places = h.still.places;
-    arcs = h.still.arcs;
-    arc_room = h.still.arc_room;
-    pair_room = h.still.pair_room;
-    visit_room = h.still.visit_room;
-    forward = h.still.forward;
-    copied = h.still.copied;
-    added = h.still.added;
-  };
-  root = h.root;
-  from = h.from;
-  order = h.order;
-  walk = h.walk;
-  entered = h.entered;
-  on_stack = h.on_stack;
-  left = h.left;
-  in_order = h.in_order;
-})
+stack_moved v w t u l i stack ps h e = subst (λ z. HasStack v w z l i stack) (sym e) h
 
 -- the top of the stack is taken
 pub at_place : (v : Shown) (w t u : Contents) (l : ℕ) (i : IsWalkable v w l) (top : Place) (c : Cursor) → HasWalked v w t l i c → u ≡ record t { visits = u.visits } → t.visits ≡ u.visits ++ top ∷ [] → IsAtPlace v w u l i top c
@@ -119,26 +99,10 @@ at_place v w t u l i top c h e q =
       has = stack_moved v w t u l i (key v top ∷ stack_of v u.visits) u.visits (subst (HasStack v w t l i) (ap (stack_of v) q ∙ stack_popped v u.visits top) h.has) e;
     }
 
--- three visits
 is_unseen : (x : Visit) → x ≢ visit.Left → x ≢ visit.Entered → x ≡ visit.Unseen
 is_unseen visit.Unseen a b = refl
 is_unseen visit.Entered a b = absurd (b refl)
 is_unseen visit.Left a b = absurd (a refl)
-
-entered_left : (x : Visit) → x ≡ visit.Entered → x ≡ visit.Left → ⊥
-entered_left visit.Unseen a b = cc
-entered_left visit.Entered a b = cc
-entered_left visit.Left a b = cc
-
-unseen_entered : (x : Visit) → x ≡ visit.Unseen → x ≡ visit.Entered → ⊥
-unseen_entered visit.Unseen a b = cc
-unseen_entered visit.Entered a b = cc
-unseen_entered visit.Left a b = cc
-
-unseen_left : {A : Type 0} (x : Visit) → x ≡ visit.Unseen → x ≡ visit.Left → A
-unseen_left visit.Unseen a b = cc
-unseen_left visit.Entered a b = cc
-unseen_left visit.Left a b = cc
 
 module _ (v : Shown) (w t : Contents) (l : ℕ) (i : IsWalkable v w l) (top : Place) (c : Cursor) (at : IsAtPlace v w t l i top c) where
   leads_on : (a : ℕ) (x : Value) (j : ℕ) → Has (both v t (key v top)) a x → end_value v t x ≡ Node j → Leads (sides v.structure) (state_of v w i.log) (key v top) j
@@ -155,7 +119,7 @@ module _ (v : Shown) (w t : Contents) (l : ℕ) (i : IsWalkable v w l) (top : Pl
   pub has_room : HasVisitRoom v t (key v top)
   has_room a x p h o n =
       let next = longer a x p h o n in
-      let size = no_longer (key v p ∷ key v top ∷ stack_of v t.visits) i.ks next.once (λ k m. let r = next.reached k (inr m) in i.reached at.has.root r.0 k at.has.from r.1) in
+      let size = stack_room (key v p ∷ key v top ∷ stack_of v t.visits) i.ks next.once (λ k m. let r = next.reached k (inr m) in i.reached at.has.root r.0 k at.has.from r.1) in
       let stack = stack_length v t.visits in
       let pairs = pairs_length v t visit.Left (stack_of v t.visits) t.pairs at.paused.1 in
       (omega (arith, size, stack, i.room, at.has.still.visit_room), omega (arith, size, pairs, i.pair_room, at.has.still.pair_room))
@@ -177,7 +141,7 @@ module _ (v : Shown) (w t : Contents) (l : ℕ) (i : IsWalkable v w l) (top : Pl
         entered = λ k m. elim (cases_eq k (key v p)) [ inl q ↦ ap (visit_of v u) q ∙ set.here | inr ne ↦ elim m [ inl q ↦ absurd (ne (sym q)) | inr r ↦ set.others k ne ∙ at.has.entered k r ] ];
         on_stack = λ k m. elim (cases_eq k (key v p)) [ inl q ↦ inl (sym q) | inr ne ↦ inr (at.has.on_stack k (sym (set.others k ne) ∙ m)) ];
         left = λ k m. elim (cases_eq k (key v p)) [ inl q ↦ absurd (o.2 (ap (visit_of v t) (sym q) ∙ at.has.left k m)) | inr ne ↦ set.others k ne ∙ at.has.left k m ];
-        in_order = λ k m. elim (cases_eq k (key v p)) [ inl q ↦ absurd (entered_left (visit_of v u k) (ap (visit_of v u) q ∙ set.here) m) | inr ne ↦ at.has.in_order k (sym (set.others k ne) ∙ m) ];
+        in_order = λ k m. elim (cases_eq k (key v p)) [ inl q ↦ (let z : visit.Entered ≡ visit.Left = sym (ap (visit_of v u) q ∙ set.here) ∙ m in cc) | inr ne ↦ at.has.in_order k (sym (set.others k ne) ∙ m) ];
       } in
       record {
         held = subst (VisitsHeld v) (sym e.7) (held_pushed v t.visits (top ∷ p ∷ []) at.held (at.top_held, (o.0, tt)));
@@ -207,7 +171,7 @@ module _ (v : Shown) (w t : Contents) (l : ℕ) (i : IsWalkable v w l) (top : Pl
         walk = walk_leaves (sides v.structure) s at.has.root K (stack_of v t.visits) at.has.order at.has.walk all;
         entered = λ k m. set.others k (λ q. at.has.walk.once.0 (subst (IsIn (stack_of v t.visits)) q m)) ∙ at.has.entered k (inr m);
         on_stack = λ k m. elim (cases_eq k K) [
-          | inl q ↦ absurd (entered_left (visit_of v u k) m (ap (visit_of v u) q ∙ set.here))
+          | inl q ↦ (let z : visit.Entered ≡ visit.Left = sym m ∙ (ap (visit_of v u) q ∙ set.here) in cc)
           | inr ne ↦ elim (at.has.on_stack k (sym (set.others k ne) ∙ m)) [ inl q ↦ absurd (ne (sym q)) | inr r ↦ r ]
         ];
         left = λ k m. elim (cases_eq k K) [ inl q ↦ ap (visit_of v u) q ∙ set.here | inr ne ↦ elim m [ inl q ↦ absurd (ne (sym q)) | inr r ↦ set.others k ne ∙ at.has.left k r ] ];
@@ -233,15 +197,15 @@ not_turned v w t top (Some c) h n = absurd (n c refl)
 pub root_is : (v : Shown) (w : Contents) (l : ℕ) (i : IsWalkable v w l) (from t : Target) → value_at v from ≡ Node l → IsEndOf v w from t → (ends i.log (Node l) ≡ value_at v t) × (ends i.log (value_at v t) ≡ value_at v t)
 root_is v w l i from t q e = let is = end_is v w i.log from t i.has_log e in (ap (ends i.log) (sym q) ∙ is.0, is.1)
 
+pub has_some : (ks : List ℕ) (k : ℕ) → IsIn ks k → 1 ≤ length ks
+has_some [] k m = absurd m
+has_some (j ∷ ks) k m = omega arith
+
 pub root_room : (v : Shown) (w : Contents) (l : ℕ) (i : IsWalkable v w l) (root : ℕ) → ends i.log (Node l) ≡ Node root → length w.visits < w.visit_room
 root_room v w l i root e =
     let some = has_some i.ks root (i.reached root 0 root e refl) in
     let none = ap (length {A = Place}) i.empty in
     omega (arith, some, none, i.room)
-  where
-    has_some : (ks : List ℕ) (k : ℕ) → IsIn ks k → 1 ≤ length ks
-    has_some [] k m = absurd m
-    has_some (j ∷ ks) k m = omega arith
 
 -- where the walk begins
 pub walked_starts : (v : Shown) (w t : Contents) (l : ℕ) (i : IsWalkable v w l) (root : Place) → IsHeld v root.block root.offset → ends i.log (Node l) ≡ Node (key v root) → ends i.log (Node (key v root)) ≡ Node (key v root)
@@ -256,9 +220,9 @@ walked_starts v w t l i root held from is_end set e pairs =
       order = [];
       walk = walk_starts (sides v.structure) (state_of v w i.log) K is_end;
       entered = λ k m. elim m [ inl q ↦ ap (visit_of v t) (sym q) ∙ set.here | inr n ↦ absurd n ];
-      on_stack = λ k m. elim (cases_eq k K) [ inl q ↦ inl (sym q) | inr ne ↦ absurd (unseen_entered (visit_of v t k) (set.others k ne ∙ i.unseen k) m) ];
+      on_stack = λ k m. elim (cases_eq k K) [ inl q ↦ inl (sym q) | inr ne ↦ (let z : visit.Unseen ≡ visit.Entered = sym (set.others k ne ∙ i.unseen k) ∙ m in cc) ];
       left = λ k m. absurd m;
-      in_order = λ k m. elim (cases_eq k K) [ inl q ↦ absurd (entered_left (visit_of v t k) (ap (visit_of v t) q ∙ set.here) m) | inr ne ↦ unseen_left (visit_of v t k) (set.others k ne ∙ i.unseen k) m ];
+      in_order = λ k m. elim (cases_eq k K) [ inl q ↦ (let z : visit.Entered ≡ visit.Left = sym (ap (visit_of v t) q ∙ set.here) ∙ m in cc) | inr ne ↦ (let z : visit.Unseen ≡ visit.Left = sym (set.others k ne ∙ i.unseen k) ∙ m in cc) ];
     } in
     record {
       held = subst (VisitsHeld v) (sym only) (held, tt);
@@ -276,14 +240,11 @@ atom_walked v w l i c e = record {
   ordered = tt;
   below = subst (Below []) (sym e) tt;
   reached = λ k m. absurd m;
-  done = λ root n k q r. no_node root (sym e ∙ q);
+  done = λ root n k q r. (let z : Atom c ≡ Node root = sym e ∙ q in cc);
   left = λ k m. absurd m;
-  in_order = λ k m. unseen_left (visit_of v w k) (i.unseen k) m;
+  in_order = λ k m. (let z : visit.Unseen ≡ visit.Left = sym (i.unseen k) ∙ m in cc);
   unseen = λ k m. i.unseen k;
 }
-  where
-    no_node : {A : Type 0} (k : ℕ) → Atom c ≡ Node k → A
-    no_node k q = cc
 
 -- nothing was popped
 pub none_popped : (t u : Contents) (o : Option Place) → MatchOption o ((t.visits ≡ []) × (u.visits ≡ [])) (λ p. t.visits ≡ u.visits ++ p ∷ []) → ((p : Place) → o ≡ Some p → ⊥) → (t.visits ≡ []) × (u.visits ≡ [])
@@ -304,14 +265,11 @@ walked_off v w t u l i c h e none empty =
       ordered = has.walk.ordered;
       below = subst (Below has.order) (sym has.from) (done 0 has.root refl);
       reached = λ k m. (let r = has.walk.reached k (inl m) in (has.root, r.0, has.from, r.1));
-      done = λ root n k q r. done n k (subst (λ z. ReachedIn (sides v.structure) s z n k) (one_node root has.root (sym q ∙ has.from)) r);
+      done = λ root n k q r. done n k (subst (λ z. ReachedIn (sides v.structure) s z n k) (node_one root has.root (sym q ∙ has.from)) r);
       left = has.left;
       in_order = has.in_order;
       unseen = λ k m. is_unseen (visit_of v u k) (λ q. m (has.in_order k q)) (λ q. absurd (has.on_stack k q));
     }
-  where
-    one_node : (j k : ℕ) → Node j ≡ Node k → j ≡ k
-    one_node j k q = cc
 
 -- with each turn less is left to visit
 pub turn_falls : (v : Shown) → IsShown v → (t u x : Contents) (top : Place) → IsHeld v top.block top.offset → visit_of v u (key v top) ≡ visit.Entered → u ≡ record t { visits = u.visits } → t.visits ≡ u.visits ++ top ∷ []

@@ -1,50 +1,30 @@
 -- What the walk finds.
 use Rattle.std.proofs.Common.{◌≡◌, ℕ, zero, suc, ◌+◌, inl, inr, Bool, true, false, cond, nat_eq, Option, Some, None, List, [], ◌∷◌, drop, refl, sym, ap, ◌∙◌, subst, arith}
-use Rattle.patr_scratch.proofs.Linking.{after_first}
 use Rattle.patr_model.specs.Structure.{Value, Arc, Arcs}
 use Rattle.patr_marks.specs.Machine.{Has}
 use Rattle.patr_marks.specs.Settled.{follow, IsFinal}
-use Rattle.patr_marks.proofs.Settles.{follow_final}
+use Rattle.patr_marks.proofs.Follow.{one_final}
 use Rattle.patr_arena.specs.Shown.{Shown, IsShown, IsHeld, number_of}
-use Rattle.patr_scratch.specs.declared.Added.{Added}
 use Rattle.patr_scratch.specs.declared.Place.{Place}
-use Rattle.patr_scratch.specs.declared.Side.{Side}
 use Rattle.patr_scratch.specs.declared.Target.{Target}
 use Rattle.patr_scratch.specs.declared.Visit.{Visit}
-use Rattle.patr_scratch.specs.Contents.{EndsOrHas, HasCell, HasPlace, IsCell, Link, PlaceMarks, Contents, marks, after, first_cell, from_cell}
-use Rattle.patr_unify.specs.Reading.{AreHeld, key, value_at, forward_of, added_of, arcs_at, marks_of, IsEndOf}
-use Rattle.patr_unify.specs.Walking.{end_value, AllEnd, visit_of, HasVisit, IsOther, IsFound, IsFoundAt, IsPassed}
-use Rattle.patr_unify.proofs.Keys.{first_has, key_marks}
-use Rattle.patr_unify.proofs.Merges.{place_room}
-use Rattle.patr_unify.proofs.Pushes.{next_arc}
-use Rattle.patr_unify.proofs.Outcomes.{follow_add}
+use Rattle.patr_scratch.specs.Contents.{Link, PlaceMarks, Contents, marks, after, from_cell}
+use Rattle.patr_unify.specs.Reading.{key, value_at, forward_of, arcs_at, IsEndOf}
+use Rattle.patr_unify.specs.Walking.{end_value, AllEnd, visit_of, AllButRest, HasVisit, IsFound, IsFoundAt, IsPassed}
+use Rattle.patr_unify.proofs.Keys.{key_marks}
 
--- forwards lead to one end
-pub one_end : (f : ℕ → Option Value) (m n : ℕ) (x : Value) → IsFinal f (follow m f x) → IsFinal f (follow n f x) → follow m f x ≡ follow n f x
-one_end f m n x hm hn =
-    sym (follow_final n f (follow m f x) hm) ∙ (sym (follow_add n m f x) ∙ (ap (λ q. follow q f x) (swapped n m) ∙ (follow_add m n f x ∙ follow_final m f (follow n f x) hn)))
-  where
-    swapped : (n m : ℕ) → n + m ≡ m + n
-    swapped n m = omega arith
-
--- what `end_of` finds is the end
+-- what `dereference` finds is the end
 pub end_found : (v : Shown) (w : Contents) (from t : Target) → AllEnd v w → IsEndOf v w from t → end_value v w (value_at v from) ≡ value_at v t
 end_found v w from t all e =
-    one_end (forward_of v w) w.pair_room e.steps (value_at v from) (all (value_at v from)) (subst (IsFinal (forward_of v w)) (sym e.follows) e.last) ∙ e.follows
+    one_final (forward_of v w) w.pair_room e.steps (value_at v from) (all (value_at v from)) (subst (IsFinal (forward_of v w)) (sym e.follows) e.last) ∙ e.follows
 
 pub visit_is : (v : Shown) (w : Contents) → IsShown v → (p : Place) (number : ℕ) (visit : Visit) → IsHeld v p.block p.offset → number ≡ number_of v p.block p.offset → visit ≡ (marks w p.side number).visit → visit ≡ visit_of v w (key v p)
 visit_is v w s p number visit h e g = g ∙ ap (λ (m : PlaceMarks). m.visit) (key_marks v w s p number h e)
 
--- the first of the arcs
-pub found_here : (v : Shown) (w : Contents) (passed : Visit) (es : Arcs) (a : ℕ) (x : Value) (p : Place) → Has es a x → IsOther v w passed x p → IsFoundAt v w passed es (Some p)
-found_here v w passed es a x p h o = (a, x, h, o)
-
-pub passed_starts : (v : Shown) (w : Contents) (passed : Visit) (es : Arcs) → IsPassed v w passed es es
-passed_starts v w passed es a x h = inl h
-
-pub passed_on : (v : Shown) (w : Contents) (passed : Visit) (es : Arcs) (e : Arc) (rest : Arcs) → IsPassed v w passed es (e ∷ rest) → HasVisit v w passed (end_value v w e.to) → IsPassed v w passed es rest
-passed_on v w passed es e rest i h a x n = elim (i a x n) [
-  | inl m ↦ elim m [ inl q ↦ inr (subst (λ y. HasVisit v w passed (end_value v w y)) q.1 h) | inr r ↦ inl r ]
+-- one arc less is left
+pub one_less : (P : Value → Type 0) (es : Arcs) (e : Arc) (rest : Arcs) → AllButRest P es (e ∷ rest) → P e.to → AllButRest P es rest
+one_less P es e rest i h a x n = elim (i a x n) [
+  | inl m ↦ elim m [ inl q ↦ inr (subst P q.1 h) | inr r ↦ inl r ]
   | inr d ↦ inr d
 ]
 
@@ -53,8 +33,9 @@ pub none_found : (v : Shown) (w : Contents) (passed : Visit) (x : Value) (o : Op
 none_found v w passed x None f n = f
 none_found v w passed x (Some p) f n = absurd (n p refl)
 
-pub passed_all : (v : Shown) (w : Contents) (passed : Visit) (es : Arcs) → IsPassed v w passed es [] → IsFoundAt v w passed es None
-passed_all v w passed es i a x h = elim (i a x h) [ inl n ↦ absurd n | inr d ↦ d ]
+-- none is left
+pub none_left : (P : Value → Type 0) (es : Arcs) → AllButRest P es [] → (a : ℕ) (x : Value) → Has es a x → P x
+none_left P es i a x h = elim (i a x h) [ inl n ↦ absurd n | inr d ↦ d ]
 
 -- an arc that is left is an arc
 pub drop_has : (es : Arcs) (i a : ℕ) (x : Value) → Has (drop i es) a x → Has es a x
@@ -74,32 +55,7 @@ after_has v ls (Some c) a x h = from ls h
         go true ih h = h
         go false ih h = inr (ih h)
 
--- the list of a place's added arcs, from one of its cells on
-module _ (v : Shown) (w : Contents) (s : IsShown v) (held : AreHeld v w) (p : Place) (there : IsHeld v p.block p.offset) where
-  marks_same : marks w p.side (number_of v p.block p.offset) ≡ marks_of v w (key v p)
-  marks_same = key_marks v w s p (number_of v p.block p.offset) there refl
-
-  has_place : HasPlace w p.side (number_of v p.block p.offset)
-  has_place = place_room v w s held p (number_of v p.block p.offset) there refl
-
-  pub is_cell : (next : Option ℕ) (cell : ℕ) → EndsOrHas (marks_of v w (key v p)).added next → next ≡ Some cell → IsCell w cell
-  is_cell next cell h e = (p.side, number_of v p.block p.offset, has_place, subst (λ (m : PlaceMarks). HasCell m.added cell) (sym marks_same) (subst (EndsOrHas (marks_of v w (key v p)).added) e h))
-
-  pub next_link : (next : Option ℕ) (cell : ℕ) (r : Added) → EndsOrHas (marks_of v w (key v p)).added next → next ≡ Some cell
-      → ((d : Side) (m : ℕ) → HasPlace w d m → HasCell (marks w d m).added cell → (after (marks w d m).added (Some cell) ≡ record { cell = cell; attribute = r.attribute; to = r.to } ∷ after (marks w d m).added r.next) × EndsOrHas (marks w d m).added r.next)
-      → (after (marks_of v w (key v p)).added next ≡ record { cell = cell; attribute = r.attribute; to = r.to } ∷ after (marks_of v w (key v p)).added r.next) × EndsOrHas (marks_of v w (key v p)).added r.next
-  next_link next cell r h e f =
-      subst (λ (m : PlaceMarks). (after m.added next ≡ (let l : Link = record { cell = cell; attribute = r.attribute; to = r.to } in l) ∷ after m.added r.next) × EndsOrHas m.added r.next) marks_same
-      (next_arc w w p.side (number_of v p.block p.offset) cell r next refl has_place (subst (λ (m : PlaceMarks). EndsOrHas m.added next) (sym marks_same) h) e f)
-
-  -- the first cell
-  pub first_link : (first : Option ℕ) → first ≡ first_cell (marks w p.side (number_of v p.block p.offset)).added → EndsOrHas (marks_of v w (key v p)).added first × (arcs_at v (after (marks_of v w (key v p)).added first) ≡ added_of v w (key v p))
-  first_link first e =
-      let ls = (marks_of v w (key v p)).added in
-      let q : first ≡ first_cell ls = e ∙ ap (λ (m : PlaceMarks). first_cell m.added) marks_same in
-      (subst (EndsOrHas ls) (sym q) (first_has ls), ap (λ o. arcs_at v (after ls o)) q ∙ ap (arcs_at v) (after_first ls))
-
 -- no cell is left
 pub links_passed : (v : Shown) (w : Contents) (passed : Visit) (es : Arcs) (ls : List Link) (next : Option ℕ) → IsPassed v w passed es (arcs_at v (after ls next)) → ((cell : ℕ) → next ≡ Some cell → ⊥) → IsFoundAt v w passed es None
 links_passed v w passed es ls (Some cell) i n = absurd (n cell refl)
-links_passed v w passed es ls None i n = passed_all v w passed es i
+links_passed v w passed es ls None i n = none_left (λ x. HasVisit v w passed (end_value v w x)) es i

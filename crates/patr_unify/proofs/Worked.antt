@@ -2,17 +2,13 @@
 use Rattle.std.proofs.Common.{◌≡◌, ℕ, suc, ◌+◌, ◌<◌, ◌⊎◌, inl, inr, Option, Some, None, List, [], ◌∷◌, ◌++◌, length, refl, sym, ap, ◌∙◌, subst, arith}
 use Rattle.std.specs.List.{sum}
 use Rattle.std.proofs.lemmas.List.{get_or_append_left, take_all}
-use Rattle.patr_lists.proofs.Places.{below_or_behind}
-use Rattle.patr_lists.specs.Members.{NoRepeats, IsIn}
-use Rattle.patr_lists.specs.Numbers.{total}
 use Rattle.patr_model.specs.Structure.{Value, Atom, Node, Arc, Arcs, Structure, IsBelow, IsValue, arcs_of}
-use Rattle.patr_marks.specs.Machine.{Has, own}
+use Rattle.patr_marks.specs.Machine.{Has, IsIn, NoRepeats, own, total}
 use Rattle.patr_marks.specs.Quotient.{Below}
-use Rattle.patr_marks.specs.Settled.{IsCopy, IsSparing, base, through}
-use Rattle.patr_marks.specs.Settled.{IsFinal, follow}
+use Rattle.patr_marks.specs.Settled.{IsCopy, IsSparing, base, through, IsFinal, follow}
 use Rattle.patr_marks.specs.Sides.{IsSide, shifted, sides}
 use Rattle.patr_marks.proofs.Copy.{base_left, base_shift}
-use Rattle.patr_marks.proofs.Sides.{own_left, own_right}
+use Rattle.patr_marks.proofs.Sides.{below_or_behind, own_left, own_right}
 use Rattle.patr_arena.specs.Blocks.{OldIsHeld}
 use Rattle.patr_arena.specs.Shown.{Shown, IsShown, IsHeld, number_of}
 use Rattle.patr_arena.specs.declared.value.Feature.{Feature}
@@ -26,13 +22,13 @@ use Rattle.patr_scratch.specs.declared.Side.TheVariants as side
 use Rattle.patr_scratch.specs.declared.Visit.{Visit}
 use Rattle.patr_scratch.specs.declared.Visit.TheVariants as visit
 use Rattle.patr_scratch.specs.Contents.{Contents}
-use Rattle.patr_unify.specs.Copying.{CopiesFit, Fits, IsCopiedTo, IsEndRef, IsOld, MarkFits, copied_of, copying_by, made_of, new_nodes, ref_to, stays_free}
+use Rattle.patr_unify.specs.Copying.{CopiesFit, Fits, IsCopiedTo, IsCopyMarked, IsEndRef, IsOld, MarkFits, copied_of, copying_by, made_of, new_nodes, ref_to, stays_free}
 use Rattle.patr_unify.specs.Deciding.{IsEndOfLeft}
 use Rattle.patr_unify.specs.Merging.{both}
 use Rattle.patr_unify.specs.Reading.{AreHeld, LinksHeld, OptionIsHeld, added_of, behind, forward_of, key, marks_in, option_at, slot_of, value_on}
 use Rattle.patr_unify.specs.Reading as reading
-use Rattle.patr_unify.specs.Walking.{AllEnd, end_value, visit_of}
-use Rattle.patr_unify.proofs.Outcomes.{follow_ext}
+use Rattle.patr_unify.specs.Walking.{AllEnd, IsStill, bare, end_value, visit_of}
+use Rattle.patr_marks.proofs.Follow.{final_ext, follow_ext}
 
 -- the places of new nodes
 pub new_place : (v : Shown) → IsShown v → (k : ℕ) → number_of v (length v.sizes) k ≡ length v.structure + k
@@ -65,13 +61,37 @@ pub copied_more : (v : Shown) (size : ℕ) (o : Option Copied) (x : Value) → I
 copied_more v size None x h = h
 copied_more v size (Some d) x h = (h.0, fits_more v size (ref_to d) h.1)
 
--- what stays while a copy is made
-pub record IsWorked (w : Contents) (t : Contents) : Type 0 where
+-- forwards and added arcs are the same
+pub record SameArcs (w : Contents) (t : Contents) : Type 0 where
   pub places : length t.places ≡ length w.places
   pub pair_room : t.pair_room ≡ w.pair_room
   pub visit_room : t.visit_room ≡ w.visit_room
   pub forward : (j : ℕ) → (marks_in t j).forward ≡ (marks_in w j).forward
   pub added : (j : ℕ) → (marks_in t j).added ≡ (marks_in w j).added
+
+-- what stays while a copy is made
+abbrev pub IsWorked : Contents → Contents → Type 0
+IsWorked w t = SameArcs (bare w) (bare t)
+
+pub worked_then : (w t u : Contents) → IsWorked w t → IsWorked t u → IsWorked w u
+worked_then w t u h k = record {
+  places = k.places ∙ h.places;
+  pair_room = k.pair_room ∙ h.pair_room;
+  visit_room = k.visit_room ∙ h.visit_room;
+  forward = λ j. k.forward j ∙ h.forward j;
+  added = λ j. k.added j ∙ h.added j;
+}
+
+pub still_worked : (w t : Contents) → IsStill w t → IsWorked w t
+still_worked w t h = record { places = h.places; pair_room = h.pair_room; visit_room = h.visit_room; forward = h.forward; added = h.added }
+
+pub marked_keeps : (v : Shown) (u m : Contents) (k : ℕ) (d : Copied) → IsCopyMarked v u m k d → IsWorked u m × ((j : ℕ) → visit_of v m j ≡ visit_of v u j) × (m.visits ≡ u.visits) × (m.pairs ≡ u.pairs)
+marked_keeps v u m k d h = (
+  record { places = h.places; pair_room = h.pair_room; visit_room = h.visit_room; forward = h.forward; added = h.added },
+  λ j. h.visit (slot_of (length v.structure) j),
+  h.visits,
+  h.pairs,
+)
 
 module _ (v : Shown) (w t : Contents) (h : IsWorked w t) where
   pub worked_forward : (k : ℕ) → forward_of v t k ≡ forward_of v w k
@@ -95,10 +115,6 @@ module _ (v : Shown) (w t : Contents) (h : IsWorked w t) where
 
   pub worked_ends : AllEnd v w → AllEnd v t
   worked_ends all x = subst (IsFinal (forward_of v t)) (sym (worked_end x)) (final_ext (forward_of v t) (forward_of v w) (end_value v w x) worked_forward (all x))
-    where
-      final_ext : (f g : ℕ → Option Value) (y : Value) → ((k : ℕ) → f k ≡ g k) → IsFinal g y → IsFinal f y
-      final_ext f g (Atom c) e i = tt
-      final_ext f g (Node k) e i = e k ∙ i
 
 -- each of the list has a lower rank than those behind it
 abbrev pub IsFalling : (ℕ → ℕ) → List ℕ → Type 0
@@ -110,7 +126,7 @@ falling_once rank [] h = tt
 falling_once rank (k ∷ ks) h = ((λ n. let low = h.0 k n in absurd (omega (arith, low))), falling_once rank ks h.1)
 
 -- what was copied, and what is on the stack
-pub record HasCopied (v : Shown) (w : Contents) (t : Contents) (l : ℕ) (r : Value) (block : List (List Feature)) (nodes : ℕ) (arcs : ℕ) (stack : List ℕ) : Type 0 where
+pub record CopiedMarks (v : Shown) (w : Contents) (t : Contents) (l : ℕ) (r : Value) (block : List (List Feature)) (nodes : ℕ) (arcs : ℕ) (stack : List ℕ) : Type 0 where
   pub still : IsWorked w t
   pub rank : ℕ → ℕ
   pub falls : (j k a : ℕ) (x : Value) → IsEndOfLeft v w l j → Has (both v w j) a x → end_value v w x ≡ Node k → rank k < rank j
@@ -131,6 +147,10 @@ pub record HasCopied (v : Shown) (w : Contents) (t : Contents) (l : ℕ) (r : Va
   pub old : OldIsHeld v block
   pub nodes_are : nodes ≡ length ks
   pub arcs_are : arcs ≡ total (λ k. length (arcs_of (v.structure ++ new_nodes v block) (value k))) ks
+
+-- the copy with this stack
+abbrev pub HasCopied : Shown → Contents → Contents → ℕ → Value → List (List Feature) → ℕ → ℕ → List ℕ → Type 0
+HasCopied v w t l r block nodes arcs stack = CopiedMarks v w (bare t) l r block nodes arcs stack
 
 -- an end's copy, by its mark
 pub ref_value : (v : Shown) (t : Contents) (size : ℕ) (value : ℕ → Value) (ks : List ℕ) (x : Value) (r : Ref) → ((k : ℕ) → IsIn ks k → IsCopiedTo v size (copied_of v t k) (value k)) → Below ks x → IsEndRef v t x r

@@ -5,13 +5,9 @@
 --     IsEndIn           an end that arcs of ends lead to
 --     IsSettledFor      the scratch after a decision that found no fault
 use Rattle.std.specs.Prelude.{◌≡◌, ℕ, zero, suc, ◌+◌, Some, None, List, [], length}
-use Rattle.patr_lists.specs.Members.{NoRepeats, IsIn}
-use Rattle.patr_lists.specs.Numbers.{total}
 use Rattle.patr_model.specs.Structure.{Value, Node, Structure, IsReached, IsValue, at}
-use Rattle.patr_model.specs.Settled as named
-use Rattle.patr_marks.specs.Machine.{Has, own}
-use Rattle.patr_marks.specs.Named.{IsAtSides, named_marks}
-use Rattle.patr_marks.specs.Settled.{Marks}
+use Rattle.patr_marks.specs.Machine.{Has, IsIn, NoRepeats, own, total}
+use Rattle.patr_marks.specs.Settled.{IsSettled, IsTidy, Marks}
 use Rattle.patr_arena.specs.Shown.{Shown}
 use Rattle.patr_scratch.specs.declared.Visit.TheVariants as visit
 use Rattle.patr_scratch.specs.Contents.{Contents, HasRoom}
@@ -61,9 +57,8 @@ pub record IsSettledFor (v : Shown) (w : Contents) (l : ℕ) (p : List ℕ) (r :
   -- the path is defined, and the right side is there
   pub there : (target : Value) × (at v.structure (Node l) p ≡ Some target)
   pub right : IsValue v.structure r
-  pub marks : named.IsSettled v.structure (Node l) p v.structure r (named_marks (length v.structure) (marks_by v w))
-  -- forwards stand at side nodes alone, and added arcs lead to such
-  pub at_sides : IsAtSides v.structure l r (marks_by v w)
+  pub marks : IsSettled v.structure l p r (marks_by v w)
+  pub tidy : IsTidy v.structure l p r (marks_by v w) marks
   -- the forwards are followed within the room for pairs
   pub ending : AllEnd v w
   pub uncopied : (j : ℕ) → (marks_in w j).copied ≡ None

@@ -17,8 +17,7 @@ use Rattle.patr_scratch.specs.declared.Side.TheVariants as side
 use Rattle.patr_scratch.specs.declared.Place.{Place}
 use Rattle.patr_scratch.specs.declared.Target.{Target}
 use Rattle.patr_scratch.specs.declared.Target.TheVariants as target
-use Rattle.patr_scratch.specs.Contents.{Link}
-use Rattle.patr_scratch.specs.Contents.{PlaceMarks, Contents, unmarked}
+use Rattle.patr_scratch.specs.Contents.{Link, PlaceMarks, Contents, unmarked}
 
 -- a place of a side among the places of both sides
 abbrev pub behind : Side → ℕ → ℕ → ℕ

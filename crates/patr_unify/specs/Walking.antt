@@ -10,9 +10,8 @@
 --     HasWalked           what the walk has entered and left
 --     IsWalked            what it comes to
 use Rattle.std.specs.Prelude.{◌≡◌, ◌≢◌, ◌≤◌, ◌+◌, ◌⊎◌, ℕ, Bool, true, false, Option, Some, None, List, [], ◌∷◌, ◌++◌, length, map, reverse, drop, ◌<◌, ◌^◌}
-use Rattle.patr_lists.specs.Members.{IsIn}
 use Rattle.patr_model.specs.Structure.{Value, Atom, Node, Arcs}
-use Rattle.patr_marks.specs.Machine.{Forward, Has, ends, own}
+use Rattle.patr_marks.specs.Machine.{Forward, Has, IsIn, ends, own}
 use Rattle.patr_marks.specs.Quotient.{Below, IsOrder}
 use Rattle.patr_marks.specs.Settled.{follow, IsFinal}
 use Rattle.patr_marks.specs.Sides.{sides}
@@ -76,9 +75,13 @@ abbrev pub HasArcAt : Shown → Contents → ℕ → Cursor → Type 0
 HasArcAt v w k (cursor.Own i) = Unit {0}
 HasArcAt v w k (cursor.Added c) = HasCell (marks_of v w k).added c
 
+-- each of the arcs is one of the rest, or has such a target
+abbrev pub AllButRest : (Value → Type 0) → Arcs → Arcs → Type 0
+AllButRest P es rest = (a : ℕ) (x : Value) → Has es a x → Has rest a x ⊎ P x
+
 -- each of the arcs is one of the rest, or leads to an end that is passed over
 abbrev pub IsPassed : Shown → Contents → Visit → Arcs → Arcs → Type 0
-IsPassed v w passed es rest = (a : ℕ) (x : Value) → Has es a x → Has rest a x ⊎ HasVisit v w passed (end_value v w x)
+IsPassed v w passed es rest = AllButRest (λ x. HasVisit v w passed (end_value v w x)) es rest
 
 -- each arc of the place before the cursor leads to an end that is passed over
 pub record IsPaused (v : Shown) (w : Contents) (passed : Visit) (k : ℕ) (c : Cursor) : Type 0 where
@@ -137,8 +140,12 @@ abbrev pub ArePaused : Shown → Contents → Visit → List ℕ → Cursor → 
 ArePaused v w passed [] c cs = cs ≡ []
 ArePaused v w passed (k ∷ ks) c cs = IsPaused v w passed k c × AreBelow v w passed ks cs
 
--- all but the visits and the pairs is as it was
-pub record IsStill (w : Contents) (t : Contents) : Type 0 where
+-- the contents without the stacks of visits and pairs
+abbrev pub bare : Contents → Contents
+bare w = record w { visits = []; pairs = [] }
+
+-- nothing but visits differs
+pub record SameMarks (w : Contents) (t : Contents) : Type 0 where
   pub places : length t.places ≡ length w.places
   pub arcs : t.arcs ≡ w.arcs
   pub arc_room : t.arc_room ≡ w.arc_room
@@ -148,11 +155,19 @@ pub record IsStill (w : Contents) (t : Contents) : Type 0 where
   pub copied : (j : ℕ) → (marks_in t j).copied ≡ (marks_in w j).copied
   pub added : (j : ℕ) → (marks_in t j).added ≡ (marks_in w j).added
 
--- the visit of one place was set, and no other one
-pub record IsVisited (v : Shown) (w : Contents) (t : Contents) (k : ℕ) (state : Visit) : Type 0 where
-  pub still : IsStill w t
+-- all but the visits and the pairs is as it was
+abbrev pub IsStill : Contents → Contents → Type 0
+IsStill w t = SameMarks (bare w) (bare t)
+
+-- the visit of one place differs
+pub record OneVisit (v : Shown) (w : Contents) (t : Contents) (k : ℕ) (state : Visit) : Type 0 where
+  pub still : SameMarks w t
   pub here : visit_of v t k ≡ state
   pub others : (j : ℕ) → j ≢ k → visit_of v t j ≡ visit_of v w j
+
+-- the visit of one place was set, and no other one
+abbrev pub IsVisited : Shown → Contents → Contents → ℕ → Visit → Type 0
+IsVisited v w t k state = OneVisit v (bare w) (bare t) k state
 
 -- the places of the stack of visits, the top first
 abbrev pub stack_of : Shown → List Place → List ℕ
@@ -199,8 +214,8 @@ pub record IsWalkable (v : Shown) (w : Contents) (l : ℕ) : Type 0 where
   pub pair_room : length ks ≤ w.pair_room + 1
   pub reached : (root n k : ℕ) → ends log (Node l) ≡ Node root → ReachedIn (sides v.structure) (state_of v w log) root n k → IsIn ks k
 
--- the walk with this stack: the visits say what it has entered and left
-pub record HasStack (v : Shown) (w : Contents) (t : Contents) (l : ℕ) (i : IsWalkable v w l) (stack : List ℕ) : Type 0 where
+-- the visits say what the walk with this stack has entered and left
+pub record HasVisits (v : Shown) (w : Contents) (t : Contents) (l : ℕ) (i : IsWalkable v w l) (stack : List ℕ) : Type 0 where
   pub still : IsStill w t
   pub root : ℕ
   pub from : ends i.log (Node l) ≡ Node root
@@ -210,6 +225,10 @@ pub record HasStack (v : Shown) (w : Contents) (t : Contents) (l : ℕ) (i : IsW
   pub on_stack : (k : ℕ) → visit_of v t k ≡ visit.Entered → IsIn stack k
   pub left : (k : ℕ) → IsIn order k → visit_of v t k ≡ visit.Left
   pub in_order : (k : ℕ) → visit_of v t k ≡ visit.Left → IsIn order k
+
+-- the walk with this stack
+abbrev pub HasStack : (v : Shown) (w t : Contents) (l : ℕ) → IsWalkable v w l → List ℕ → Type 0
+HasStack v w t l i stack = HasVisits v w (bare t) l i stack
 
 -- the walk at the head of its loop
 pub record HasWalked (v : Shown) (w : Contents) (t : Contents) (l : ℕ) (i : IsWalkable v w l) (c : Cursor) : Type 0 where

@@ -11,9 +11,9 @@ ghost use Rattle.patr_scratch.specs.declared.Visit.TheVariants as visit;
 
 use crate::cursor::{Cursor, FIRST, take_up};
 use crate::draft::Draft;
-use crate::ends::{address, end_of, number};
-use crate::gather::gather;
+use crate::ends::{address, dereference, number};
 use crate::keep::{end_ref, may_stay};
+use crate::merged_arcs::merged_arcs;
 use crate::walk::{enter, go_down, left_target, next_end};
 use patr_arena::{Addr, Block, Id, Memory, Nodes, Ref};
 use patr_scratch::{Copied, Place, Scratch, Target, Visit};
@@ -67,7 +67,7 @@ fn finish<N: Nodes>(
         mark_copy(nodes, top, kept, scratch);
         return Ok(());
     }
-    let arcs = gather(alloc, nodes, scratch, top)?;
+    let arcs = merged_arcs(alloc, nodes, scratch, top)?;
     draft.arcs = draft.arcs.checked_add(arcs.len() as u64).ok_or(AllocError)?;
     let offset = draft.block.add(&arcs)?;
     mark_copy(nodes, top, Copied::New(offset), scratch);
@@ -156,7 +156,7 @@ pub fn copy<N: Nodes>(
     ensures made { (p : List ℕ) (r : _) → IsSettledFor (N.shown nodes.now) scratch.old (number_of (N.shown nodes.now) left.block left.offset) p r → IfOk result (λ made. IsMade (N.shown nodes.now) (number_of (N.shown nodes.now) left.block left.offset) p r made.block made.root made.nodes made.arcs) }
     ensures room { KeepsRoom scratch.old scratch.new }
 {
-    match end_of(nodes, scratch, left_target(left)) {
+    match dereference(nodes, scratch, left_target(left)) {
         Target::Atom(atom) => Ok(Made {
             block: Block::new(alloc),
             root: Ref::Atom(Id(atom)),

@@ -16,14 +16,14 @@ mod count;
 mod cursor;
 mod draft;
 mod ends;
-mod gather;
 mod keep;
 mod lists;
 mod merge;
+mod merged_arcs;
 mod reach;
-mod settle;
 mod solve;
 mod unify;
+mod unify_pair;
 mod walk;
 
 pub use build::{Made, copy};

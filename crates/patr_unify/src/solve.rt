@@ -10,8 +10,8 @@ ghost use Rattle.patr_unify.specs.Deciding.{HasDecisionRoom, IsSettledFor};
 
 use crate::count::Steps;
 use crate::lists::target_on;
-use crate::settle::settle_all;
-use crate::walk::walk;
+use crate::unify_pair::unify_pairs;
+use crate::walk::is_acyclic;
 use patr_arena::{Addr, Id, Nodes, Value, resolve_path};
 use patr_scratch::{Scratch, Side};
 use std::sync::ledger::Ledger;
@@ -59,10 +59,10 @@ pub fn decide<N: Nodes, L: Ledger>(
     let left_target = target_on(Side::Left, target);
     let right_target = target_on(Side::Right, right);
     scratch.push_pair(left_target, right_target);
-    if !settle_all(nodes, scratch) {
+    if !unify_pairs(nodes, scratch) {
         return Decision::NoUnifier;
     }
-    if !walk(nodes, left, scratch) {
+    if !is_acyclic(nodes, left, scratch) {
         return Decision::NoUnifier;
     }
     Decision::Solvable

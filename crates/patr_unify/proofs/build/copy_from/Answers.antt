@@ -2,19 +2,15 @@ use Rattle.std.proofs.Common.{rules, ◌∙◌, ◌∷◌, ◌++◌, [], sym, ap
 use Rattle.patr_scratch.specs.declared.Visit.TheVariants as visit
 use Rattle.patr_unify.specs.Walking.{VisitsHeld, stack_of}
 use Rattle.patr_unify.proofs.Worked.{HasCopied, worked_ends, worked_held}
-use Rattle.patr_unify.proofs.CopyLoop.{copied_moved, going_falls}
+use Rattle.patr_unify.proofs.CopyLoop.{copied_moved, going_falls, at_top, finished, first_room, gone_held, gone_paused, starts, top_room, turned}
 use Rattle.patr_unify.proofs.Pauses.{paused_popped, paused_starts}
-use Rattle.patr_unify.proofs.Turning.{at_top, finished, first_room, gone_held, gone_paused, starts, top_room, turned}
 use Rattle.patr_unify.proofs.Walked.{held_popped, none_popped}
 use Rattle.patr_unify.proofs.build.copy_from.Goals as goal
 
 pub enter-requires-clause-room : goal.enter-requires-clause-room
 enter-requires-clause-room g c =
-    let v = g.N.Nodes.shown c.args.nodes.now in
-    let s = g.met.N.Nodes.lawful c.args.nodes.now in
-    let w = c.args.scratch.now in
     let q = c.requires.settled in
-    first_room v s w q.0 q.1 q.2 q.3 q.4
+    first_room (g.N.Nodes.shown c.args.nodes.now) (g.met.N.Nodes.lawful c.args.nodes.now) c.args.scratch.now q.0 q.1 q.2 q.3 q.4
 
 pub loop-top-init : goal.loop-top-init
 loop-top-init g c =
@@ -31,19 +27,8 @@ loop-top-init g c =
       room = search rules;
     }
 
-pub go_on-requires-clause-top : goal.go_on-requires-clause-top
-go_on-requires-clause-top g c =
-    let v = g.N.Nodes.shown c.args.nodes.now in
-    let s = g.met.N.Nodes.lawful c.args.nodes.now in
-    let w = c.args.scratch.now in
-    let t = c.loop-top.scratch in
-    let u = c.pop_visit.new.self in
-    let d = c.loop-top.draft in
-    let popped = held_popped v u.visits c.in-Some.top (subst (VisitsHeld v) c.in-Some.ensures.last c.loop-top.invariant.held) in
-    popped.1
-
-pub go_on-requires-clause-held : goal.go_on-requires-clause-held
-go_on-requires-clause-held g c =
+pub go_on-requires : goal.go_on-requires
+go_on-requires g c =
     let v = g.N.Nodes.shown c.args.nodes.now in
     let s = g.met.N.Nodes.lawful c.args.nodes.now in
     let w = c.args.scratch.now in
@@ -51,115 +36,57 @@ go_on-requires-clause-held g c =
     let t = c.loop-top.scratch in
     let u = c.pop_visit.new.self in
     let d = c.loop-top.draft in
-    let popped = held_popped v u.visits c.in-Some.top (subst (VisitsHeld v) c.in-Some.ensures.last c.loop-top.invariant.held) in
-    let has = at_top v s w q.0 q.1 q.2 q.3 q.4 t u c.in-Some.top d.block d.nodes d.arcs (c.loop-top.invariant.copied q.0 q.1 q.2 q.3 q.4 q.5) c.in-Some.ensures.rest c.in-Some.ensures.last in
-    worked_held v w u has.still q.4.held
-
-pub go_on-requires-clause-ending : goal.go_on-requires-clause-ending
-go_on-requires-clause-ending g c =
-    let v = g.N.Nodes.shown c.args.nodes.now in
-    let s = g.met.N.Nodes.lawful c.args.nodes.now in
-    let w = c.args.scratch.now in
-    let q = c.requires.settled in
-    let t = c.loop-top.scratch in
-    let u = c.pop_visit.new.self in
-    let d = c.loop-top.draft in
-    let popped = held_popped v u.visits c.in-Some.top (subst (VisitsHeld v) c.in-Some.ensures.last c.loop-top.invariant.held) in
-    let has = at_top v s w q.0 q.1 q.2 q.3 q.4 t u c.in-Some.top d.block d.nodes d.arcs (c.loop-top.invariant.copied q.0 q.1 q.2 q.3 q.4 q.5) c.in-Some.ensures.rest c.in-Some.ensures.last in
-    worked_ends v w u has.still q.4.ending
-
-pub go_on-requires-clause-copies : goal.go_on-requires-clause-copies
-go_on-requires-clause-copies g c =
-    let v = g.N.Nodes.shown c.args.nodes.now in
-    let s = g.met.N.Nodes.lawful c.args.nodes.now in
-    let w = c.args.scratch.now in
-    let q = c.requires.settled in
-    let t = c.loop-top.scratch in
-    let u = c.pop_visit.new.self in
-    let d = c.loop-top.draft in
-    let popped = held_popped v u.visits c.in-Some.top (subst (VisitsHeld v) c.in-Some.ensures.last c.loop-top.invariant.held) in
-    let has = at_top v s w q.0 q.1 q.2 q.3 q.4 t u c.in-Some.top d.block d.nodes d.arcs (c.loop-top.invariant.copied q.0 q.1 q.2 q.3 q.4 q.5) c.in-Some.ensures.rest c.in-Some.ensures.last in
-    has.fits
-
-pub go_on-requires-clause-room : goal.go_on-requires-clause-room
-go_on-requires-clause-room g c =
-    let v = g.N.Nodes.shown c.args.nodes.now in
-    let s = g.met.N.Nodes.lawful c.args.nodes.now in
-    let w = c.args.scratch.now in
-    let q = c.requires.settled in
-    let t = c.loop-top.scratch in
-    let u = c.pop_visit.new.self in
-    let d = c.loop-top.draft in
-    let popped = held_popped v u.visits c.in-Some.top (subst (VisitsHeld v) c.in-Some.ensures.last c.loop-top.invariant.held) in
-    let has = at_top v s w q.0 q.1 q.2 q.3 q.4 t u c.in-Some.top d.block d.nodes d.arcs (c.loop-top.invariant.copied q.0 q.1 q.2 q.3 q.4 q.5) c.in-Some.ensures.rest c.in-Some.ensures.last in
-    top_room v s w q.0 q.1 q.2 q.3 q.4 u c.in-Some.top c.loop-top.from d.block d.nodes d.arcs popped.1 has
-    (paused_popped v visit.Entered t u c.in-Some.top c.loop-top.from c.loop-top.invariant.paused c.in-Some.ensures.rest c.in-Some.ensures.last)
-
-pub go_on-requires-clause-paused : goal.go_on-requires-clause-paused
-go_on-requires-clause-paused g c =
-    let v = g.N.Nodes.shown c.args.nodes.now in
-    (paused_popped v visit.Entered c.loop-top.scratch c.pop_visit.new.self c.in-Some.top c.loop-top.from c.loop-top.invariant.paused c.in-Some.ensures.rest c.in-Some.ensures.last).0
+    let top = c.in-Some.top in
+    let held = (held_popped v u.visits top (subst (VisitsHeld v) c.in-Some.ensures.last c.loop-top.invariant.held)).1 in
+    let has = at_top v s w q.0 q.1 q.2 q.3 q.4 t u top d.block d.nodes d.arcs (c.loop-top.invariant.copied q.0 q.1 q.2 q.3 q.4 q.5) c.in-Some.ensures.rest c.in-Some.ensures.last in
+    let paused = paused_popped v visit.Entered t u top c.loop-top.from c.loop-top.invariant.paused c.in-Some.ensures.rest c.in-Some.ensures.last in
+    record {
+      top = held;
+      held = worked_held v w u has.still q.4.held;
+      ending = worked_ends v w u has.still q.4.ending;
+      copies = has.fits;
+      room = top_room v s w q.0 q.1 q.2 q.3 q.4 u top c.loop-top.from d.block d.nodes d.arcs held has paused;
+      paused = paused.0;
+    }
 
 pub loop-top-smaller : goal.loop-top-smaller
 loop-top-smaller g c =
-    let v = g.N.Nodes.shown c.args.nodes.now in
-    let s = g.met.N.Nodes.lawful c.args.nodes.now in
-    let w = c.args.scratch.now in
-    let t = c.loop-top.scratch in
-    let u = c.pop_visit.new.self in
-    let d = c.loop-top.draft in
-    let popped = held_popped v u.visits c.in-Some.top (subst (VisitsHeld v) c.in-Some.ensures.last c.loop-top.invariant.held) in
-    going_falls v s t u c.go_on.new.scratch c.in-Some.top d c.go_on.new.draft c.in_ok-from.from c.in-Some.ensures.rest c.in-Some.ensures.last c.in_ok-from.ensures.gone
+    going_falls (g.N.Nodes.shown c.args.nodes.now) (g.met.N.Nodes.lawful c.args.nodes.now) c.loop-top.scratch c.pop_visit.new.self c.go_on.new.scratch c.in-Some.top c.loop-top.draft c.go_on.new.draft c.in_ok-from.from
+    c.in-Some.ensures.rest c.in-Some.ensures.last c.in_ok-from.ensures.gone
 
 pub loop-top-preserved : goal.loop-top-preserved
 loop-top-preserved g c =
     let v = g.N.Nodes.shown c.args.nodes.now in
-    let s = g.met.N.Nodes.lawful c.args.nodes.now in
-    let w = c.args.scratch.now in
     let t = c.loop-top.scratch in
     let u = c.pop_visit.new.self in
     let d = c.loop-top.draft in
-    let popped = held_popped v u.visits c.in-Some.top (subst (VisitsHeld v) c.in-Some.ensures.last c.loop-top.invariant.held) in
+    let top = c.in-Some.top in
+    let popped = held_popped v u.visits top (subst (VisitsHeld v) c.in-Some.ensures.last c.loop-top.invariant.held) in
     record {
-      paused = gone_paused v u c.go_on.new.scratch c.in-Some.top d c.go_on.new.draft c.loop-top.from c.in_ok-from.from
-          (paused_popped v visit.Entered t u c.in-Some.top c.loop-top.from c.loop-top.invariant.paused c.in-Some.ensures.rest c.in-Some.ensures.last) c.in_ok-from.ensures.gone;
-      held = gone_held v u c.go_on.new.scratch c.in-Some.top d c.go_on.new.draft c.in_ok-from.from popped.1 popped.0 c.in_ok-from.ensures.gone;
-      copied = λ l p r hl set from. turned v s w l p r hl set u c.go_on.new.scratch c.in-Some.top d c.go_on.new.draft c.in_ok-from.from popped.1
-          (at_top v s w l p r hl set t u c.in-Some.top d.block d.nodes d.arcs (c.loop-top.invariant.copied l p r hl set from) c.in-Some.ensures.rest c.in-Some.ensures.last) c.in_ok-from.ensures.gone;
+      paused = gone_paused v u c.go_on.new.scratch top d c.go_on.new.draft c.loop-top.from c.in_ok-from.from
+          (paused_popped v visit.Entered t u top c.loop-top.from c.loop-top.invariant.paused c.in-Some.ensures.rest c.in-Some.ensures.last) c.in_ok-from.ensures.gone;
+      held = gone_held v u c.go_on.new.scratch top d c.go_on.new.draft c.in_ok-from.from popped.1 popped.0 c.in_ok-from.ensures.gone;
+      copied = λ l p r hl set from. turned v (g.met.N.Nodes.lawful c.args.nodes.now) c.args.scratch.now l p r hl set u c.go_on.new.scratch top d c.go_on.new.draft c.in_ok-from.from popped.1
+          (at_top v (g.met.N.Nodes.lawful c.args.nodes.now) c.args.scratch.now l p r hl set t u top d.block d.nodes d.arcs (c.loop-top.invariant.copied l p r hl set from) c.in-Some.ensures.rest c.in-Some.ensures.last) c.in_ok-from.ensures.gone;
       room = search rules;
     }
 
-pub end_ref-made-requires-clause-held : goal.end_ref-made-requires-clause-held
-end_ref-made-requires-clause-held g c =
+pub end_ref-made-requires : goal.end_ref-made-requires
+end_ref-made-requires g c =
     let v = g.N.Nodes.shown c.args.nodes.now in
-    let s = g.met.N.Nodes.lawful c.args.nodes.now in
     let w = c.args.scratch.now in
     let q = c.requires.settled in
     let t = c.loop-top.scratch in
     let u = c.pop_visit.new.self in
     let d = c.loop-top.draft in
     let has = copied_moved v w t u q.0 q.2 d.block d.nodes d.arcs (stack_of v t.visits) u.visits t.pairs (c.loop-top.invariant.copied q.0 q.1 q.2 q.3 q.4 q.5) c.pop_visit.ensures.rest in
-    worked_held v w u has.still q.4.held
-
-pub end_ref-made-requires-clause-ending : goal.end_ref-made-requires-clause-ending
-end_ref-made-requires-clause-ending g c =
-    let v = g.N.Nodes.shown c.args.nodes.now in
-    let s = g.met.N.Nodes.lawful c.args.nodes.now in
-    let w = c.args.scratch.now in
-    let q = c.requires.settled in
-    let t = c.loop-top.scratch in
-    let u = c.pop_visit.new.self in
-    let d = c.loop-top.draft in
-    let has = copied_moved v w t u q.0 q.2 d.block d.nodes d.arcs (stack_of v t.visits) u.visits t.pairs (c.loop-top.invariant.copied q.0 q.1 q.2 q.3 q.4 q.5) c.pop_visit.ensures.rest in
-    worked_ends v w u has.still q.4.ending
+    record { target = c.requires.root; held = worked_held v w u has.still q.4.held; ending = worked_ends v w u has.still q.4.ending }
 
 pub returns-clause-made : goal.returns-clause-made
 returns-clause-made g c l p r hl set from =
-    let v = g.N.Nodes.shown c.args.nodes.now in
-    let s = g.met.N.Nodes.lawful c.args.nodes.now in
-    let w = c.args.scratch.now in
     let t = c.loop-top.scratch in
     let u = c.pop_visit.new.self in
     let d = c.loop-top.draft in
     let none = none_popped t u c.pop_visit.result c.pop_visit.ensures.last c.in_default.not-Some in
-    finished v s w l p r hl set t u c.args.root d.block d.nodes d.arcs c.end_ref-made.result from (c.loop-top.invariant.copied l p r hl set from) c.pop_visit.ensures.rest none.0 c.end_ref-made.ensures.same
+    finished (g.N.Nodes.shown c.args.nodes.now) (g.met.N.Nodes.lawful c.args.nodes.now) c.args.scratch.now l p r hl set t u c.args.root d.block d.nodes d.arcs c.end_ref-made.result from
+    (c.loop-top.invariant.copied l p r hl set from) c.pop_visit.ensures.rest none.0 c.end_ref-made.ensures.same

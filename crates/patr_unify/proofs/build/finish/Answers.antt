@@ -1,10 +1,8 @@
 use Rattle.std.proofs.Common.{rules, ◌≡◌, ◌∙◌, ◌+◌, Bool, length, inl, refl, ap, subst}
-use Rattle.patr_marks.specs.Machine.{own}
-use Rattle.patr_arena.specs.declared.value.Addr.{Addr}
-use Rattle.patr_arena.specs.Shown.{arcs_from, number_of}
 use Rattle.patr_unify.specs.Copying.{IsKeptOrNot}
 use Rattle.patr_unify.specs.Reading.{key}
-use Rattle.patr_unify.proofs.Copies.{own_length}
+use Rattle.patr_unify.proofs.Visits.{own_length}
+use Rattle.patr_unify.proofs.Loops.{arcs_are}
 use Rattle.patr_unify.proofs.build.finish.Goals as goal
 
 pub returns-then-may_stay-clause-finished : goal.returns-then-may_stay-clause-finished
@@ -13,7 +11,7 @@ returns-then-may_stay-clause-finished g c =
     let w = c.args.scratch.now in
     let p = c.args.top in
     let fs = c.arcs-count.result.now in
-    let same : arcs_from v p.block fs ≡ own v.structure (number_of v p.block p.offset) = subst (λ (a : Addr). arcs_from v a.block fs ≡ own v.structure (number_of v a.block a.offset)) c.address.ensures c.arcs-count.ensures.same in
+    let same = arcs_are v (g.met.N.Nodes.lawful c.args.nodes.now) w p c.requires.top c.address.result c.address.ensures fs c.arcs-count.ensures.held c.arcs-count.ensures.same in
     let one : c.in_ok-draft.field-0 ≡ c.args.draft.now.nodes + 1 = search rules in
     let more : c.in_ok-draft-2.field-0 ≡ c.args.draft.now.arcs + length fs = search rules in
     inl (record {

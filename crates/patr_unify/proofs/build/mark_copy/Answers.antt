@@ -1,4 +1,4 @@
-use Rattle.patr_unify.proofs.Copies.{copy_marked}
+use Rattle.patr_unify.proofs.Visits.{copy_marked}
 use Rattle.patr_unify.proofs.build.mark_copy.Goals as goal
 
 pub returns : goal.returns

@@ -13,21 +13,17 @@ returns-in-Atom-clause-same g c =
     let w = c.args.scratch.now in
     subst (λ x. IsEndRef v w x (ref.Atom (record { 0 = c.in-Atom.atom }))) (sym (end_found v w c.args.target (target.Atom c.in-Atom.atom) c.requires.ending c.in-Atom.ensures)) refl
 
-pub returns-in-Some-clause-same : goal.returns-in-Some-clause-same
-returns-in-Some-clause-same g c =
+pub returns-in-Some : goal.returns-in-Some
+returns-in-Some g c =
     let v = g.N.Nodes.shown c.args.nodes.now in
     let w = c.args.scratch.now in
     let p = c.in-Place.place in
-    let mark = copied_is v w (g.met.N.Nodes.lawful c.args.nodes.now) p c.number.result (Some c.in-Some.made) c.in-Place.ensures.held c.number.ensures c.in-Some.ensures in
-    subst (λ x. IsEndRef v w x c.ref_to.result) (sym (end_found v w c.args.target (target.Place p) c.requires.ending c.in-Place.ensures)) (some_ref v w (key v p) (Some c.in-Some.made) c.in-Some.made c.ref_to.result mark refl c.ref_to.ensures)
-
-pub returns-in-Some-clause-fits : goal.returns-in-Some-clause-fits
-returns-in-Some-clause-fits g c size fit =
-    let v = g.N.Nodes.shown c.args.nodes.now in
-    let w = c.args.scratch.now in
-    let p = c.in-Place.place in
-    let mark = copied_is v w (g.met.N.Nodes.lawful c.args.nodes.now) p c.number.result (Some c.in-Some.made) c.in-Place.ensures.held c.number.ensures c.in-Some.ensures in
-    mark_fits v w size (key v p) (Some c.in-Some.made) c.in-Some.made c.ref_to.result fit mark refl c.ref_to.ensures
+    let made = c.in-Some.made in
+    let mark = copied_is v w (g.met.N.Nodes.lawful c.args.nodes.now) p c.number.result (Some made) c.in-Place.ensures.held c.number.ensures c.in-Some.ensures in
+    record {
+      same = subst (λ x. IsEndRef v w x c.ref_to.result) (sym (end_found v w c.args.target (target.Place p) c.requires.ending c.in-Place.ensures)) (some_ref v w (key v p) (Some made) made c.ref_to.result mark refl c.ref_to.ensures);
+      fits = λ size fit. mark_fits v w size (key v p) (Some made) made c.ref_to.result fit mark refl c.ref_to.ensures;
+    }
 
 pub returns-in-None-clause-same : goal.returns-in-None-clause-same
 returns-in-None-clause-same g c =

@@ -6,15 +6,10 @@ use Rattle.patr_unify.specs.Counting.{IsReaching, ValuesHeld, values}
 use Rattle.patr_unify.proofs.Counting.{reaching_ends, values_held_pop}
 use Rattle.patr_unify.proofs.reach.reachable.Goals as goal
 
-pub look_at-requires-clause-value : goal.look_at-requires-clause-value
-look_at-requires-clause-value g c =
-    let v = g.N.Nodes.shown c.args.nodes.now in
-    (values_held_pop v c.pop.new.self.items c.in-Some.value (subst (ValuesHeld v) c.in-Some.ensures.items c.loop-value.invariant.held)).1
-
-pub look_at-requires-clause-waiting : goal.look_at-requires-clause-waiting
-look_at-requires-clause-waiting g c =
-    let v = g.N.Nodes.shown c.args.nodes.now in
-    (values_held_pop v c.pop.new.self.items c.in-Some.value (subst (ValuesHeld v) c.in-Some.ensures.items c.loop-value.invariant.held)).0
+pub look_at-requires : goal.look_at-requires
+look_at-requires g c =
+    let held = values_held_pop (g.N.Nodes.shown c.args.nodes.now) c.pop.new.self.items c.in-Some.value (subst (ValuesHeld (g.N.Nodes.shown c.args.nodes.now)) c.in-Some.ensures.items c.loop-value.invariant.held) in
+    record { value = held.1; waiting = held.0 }
 
 pub returns : goal.returns
 returns g c =

@@ -20,21 +20,14 @@ returns-then-same_visit-clause-turned g c =
     let state = visit_is v c.args.scratch.now (g.met.N.Nodes.lawful c.args.nodes.now) p c.number.result c.visit-visit.result f.3.0 c.number.ensures c.visit-visit.ensures in
     (f.0, f.1, key v p, f.2, f.3.1, sym state ∙ c.same_visit.ensures.same c.if-same_visit.true)
 
-pub go_down-requires-clause-visits : goal.go_down-requires-clause-visits
-go_down-requires-clause-visits g c =
+pub go_down-requires : goal.go_down-requires
+go_down-requires g c =
     let v = g.N.Nodes.shown c.args.nodes.now in
     let p = c.in-Some.found.place in
     let f = c.in-Some.ensures.0 in
     let state = visit_is v c.args.scratch.now (g.met.N.Nodes.lawful c.args.nodes.now) p c.number.result c.visit-visit.result f.3.0 c.number.ensures c.visit-visit.ensures in
-    (c.requires.room f.0 f.1 p f.2 f.3 (λ e. c.same_visit.ensures.apart c.if-same_visit.false (state ∙ e))).0
-
-pub go_down-requires-clause-pairs : goal.go_down-requires-clause-pairs
-go_down-requires-clause-pairs g c =
-    let v = g.N.Nodes.shown c.args.nodes.now in
-    let p = c.in-Some.found.place in
-    let f = c.in-Some.ensures.0 in
-    let state = visit_is v c.args.scratch.now (g.met.N.Nodes.lawful c.args.nodes.now) p c.number.result c.visit-visit.result f.3.0 c.number.ensures c.visit-visit.ensures in
-    (c.requires.room f.0 f.1 p f.2 f.3 (λ e. c.same_visit.ensures.apart c.if-same_visit.false (state ∙ e))).1
+    let room = c.requires.room f.0 f.1 p f.2 f.3 (λ e. c.same_visit.ensures.apart c.if-same_visit.false (state ∙ e)) in
+    record { place = f.3.0; held = c.requires.held; visits = room.0; pairs = room.1 }
 
 pub returns-else-same_visit-clause-turned : goal.returns-else-same_visit-clause-turned
 returns-else-same_visit-clause-turned g c =

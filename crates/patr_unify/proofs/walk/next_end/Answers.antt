@@ -3,18 +3,12 @@ use Rattle.patr_scratch.specs.Contents.{first_cell, marks}
 use Rattle.patr_unify.specs.Merging.{both}
 use Rattle.patr_unify.specs.Reading.{key}
 use Rattle.patr_unify.specs.Walking.{IsPassed}
-use Rattle.patr_unify.proofs.Walks.{first_link}
+use Rattle.patr_unify.proofs.Loops.{first_link}
 use Rattle.patr_unify.proofs.walk.next_end.Goals as goal
 
-pub other_added_end-requires-clause-start : goal.other_added_end-requires-clause-start
-other_added_end-requires-clause-start g c =
-    let v = g.N.Nodes.shown c.args.nodes.now in
-    let w = c.args.scratch.now in
-    (first_link v w (g.met.N.Nodes.lawful c.args.nodes.now) c.requires.held c.args.place c.requires.place c.first_arc-first.result (c.first_arc-first.ensures ∙ ap (λ n. first_cell (marks w c.args.place.side n).added) c.number.ensures)).0
-
-pub other_added_end-requires-clause-before : goal.other_added_end-requires-clause-before
-other_added_end-requires-clause-before g c =
+pub other_added_end-requires : goal.other_added_end-requires
+other_added_end-requires g c =
     let v = g.N.Nodes.shown c.args.nodes.now in
     let w = c.args.scratch.now in
     let first = first_link v w (g.met.N.Nodes.lawful c.args.nodes.now) c.requires.held c.args.place c.requires.place c.first_arc-first.result (c.first_arc-first.ensures ∙ ap (λ n. first_cell (marks w c.args.place.side n).added) c.number.ensures) in
-    subst (IsPassed v w c.args.passed (both v w (key v c.args.place))) (sym first.1) c.in-None.ensures
+    record { place = c.requires.place; held = c.requires.held; ending = c.requires.ending; start = first.0; before = subst (IsPassed v w c.args.passed (both v w (key v c.args.place))) (sym first.1) c.in-None.ensures }
