@@ -22,7 +22,7 @@ use Rattle.patr_model.specs.Session.{Numbering}
 use Rattle.patr_model.specs.Build.{keys_of, rule_variants, entry_variants}
 use Rattle.patr_consequences.specs.Generator as generator
 use Rattle.patr_consequences.specs.Generator.{generated_rules, generated_words, generated_entries, AreDifferent, numbered, edge_count, IsCounted, IsOnlyAnalysis, ChartsOfWordsAreCounted, GeneratedChartsAreCounted}
-use Rattle.patr_consequences.specs.Edges.{rule as B, active as A, tree as T, all_each as edges}
+use Rattle.patr_consequences.specs.Edges.{rule as B, active as A, tree as T, all_edges as edges}
 use Rattle.patr_consequences.proofs.Generated.{Symbols, AreApart, more_rule, last_rule, entry_of, generated, entries_from, words_from, words_length, whole_complete, last_partial, more_partial, after_partial}
 use Rattle.patr_consequences.proofs.GeneratedCharts.{Shape, word, more, last, behind, whole, whole_start, whole_end, made, shape_in, in_shape, whole_category, word_category}
 use Rattle.patr_consequences.proofs.GeneratedCounts.{edges_once, edges_length, shape_listed, listed_shape, shape_size}
