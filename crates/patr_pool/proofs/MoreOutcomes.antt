@@ -1,5 +1,5 @@
 -- The facts on a worker's tasks and yields, with one task more.
-use Rattle.std.proofs.Common.{◌≡◌, ◌≢◌, ◌⊎◌, ℕ, ◌+◌, ◌-◌, ◌<◌, ◌≤◌, Bool, true, false, true≢false, List, [], ◌∷◌, ◌++◌, map, length, refl, sym, ap, subst, inl, inr, ⊎_elim, arith, length-append}
+use Rattle.std.proofs.Common.{◌≡◌, ◌≢◌, ◌⊎◌, ℕ, ◌+◌, ◌-◌, ◌<◌, ◌≤◌, Bool, true, false, true≢false, List, [], ◌∷◌, ◌++◌, map, length, refl, sym, ap, ◌∙◌, subst, inl, inr, ⊎_elim, arith, length-append}
 use Rattle.std.proofs.lemmas.List.{map-append}
 use Rattle.std.proofs.lemmas.List.Elements.{All-push}
 use mathlib.Core.Logic.{dite}
@@ -10,7 +10,7 @@ use Rattle.patr_claims.proofs.Distinct.{length-le-below}
 use Rattle.patr_pool.specs.declared.work.Outcome.{Outcome}
 use Rattle.patr_pool.specs.declared.work.Outcome.TheVariants.{Nothing, Made, Stop}
 use Rattle.patr_pool.specs.declared.work.Yield.{Yield}
-use Rattle.patr_pool.specs.Outcomes.{tasks_of, AreTasks, YieldsMore, Yielded}
+use Rattle.patr_pool.specs.Outcomes.{tasks_of, AreTasks, HasStop, YieldsMore, Yielded}
 
 pub more_tasks : (tasks task : ℕ) (list : List ℕ) → AreTasks tasks list → task < tasks → times task list ≡ 0 → AreTasks tasks (list ++ task ∷ [])
 more_tasks tasks task list were below new = record {
@@ -29,6 +29,16 @@ fewer_left tasks task list new is were below other =
     omega (arith, length-append list (task ∷ []))
 
 module _ {T : Type 0} (first : ℕ → Outcome T → Type 0) where
+  pub said_stop : (task : ℕ) (stop : Bool) (old new : List (Yield T)) → YieldsMore first task stop old new → stop ≡ true → first task Stop
+  said_stop task stop old new more e = ⊎_elim
+      (λ (m : (out : T) × (new ≡ old ++ record { task = task; out = out } ∷ []) × first task (Made out) × (stop ≡ false)). absurd (true≢false (sym e ∙ m.3)))
+      (λ (m : (new ≡ old) × (stop ≡ false → first task Nothing) × (stop ≡ true → first task Stop)). m.2 e)
+      more
+
+  -- the task that was taken last said Stop
+  pub stops : (task : ℕ) (list new : List ℕ) → new ≡ list ++ task ∷ [] → first task Stop → HasStop first new
+  stops task list new is said = (task, subst (λ (l : List ℕ). 0 < times task l) (sym is) (omega (arith, times_push_same task list)), said)
+
   pub more_yields : (task : ℕ) (list : List ℕ) (stop : Bool) (old new : List (Yield T)) → Yielded first list false old → times task list ≡ 0 → YieldsMore first task stop old new → Yielded first (list ++ task ∷ []) stop new
   more_yields task list stop old new were other more = ⊎_elim
       (λ (m : (out : T) × (new ≡ old ++ record { task = task; out = out } ∷ []) × first task (Made out) × (stop ≡ false)). subst (λ (n : List (Yield T)). Yielded first (list ++ task ∷ []) stop n) (sym m.1) (with_yield m.0 m.2))

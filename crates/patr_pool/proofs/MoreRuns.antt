@@ -3,7 +3,6 @@ use Rattle.std.proofs.Common.{◌≡◌, ℕ, ◌<◌, ◌≤◌, Bool, true, fa
 use Rattle.std.proofs.lemmas.List.{map-append}
 use Rattle.std.proofs.lemmas.List.Elements.{All-append, All-cons, All-push}
 use Rattle.std.proofs.lemmas.Grind.{flat_map-append}
-use Rattle.patr_lists.proofs.Conditions.{or_right}
 use mathlib.Core.Logic.{dite}
 use native.Mathlib.Decide.{dec_lt}
 use Rattle.patr_claims.specs.Tasks.{times, all_of, NoneTwice, NoneFrom, EachBelow}
@@ -14,7 +13,7 @@ use Rattle.patr_pool.specs.declared.worker.Ran.{Ran}
 use Rattle.patr_pool.specs.declared.work.Outcome.{Outcome}
 use Rattle.patr_pool.specs.declared.work.Outcome.TheVariants.{Nothing, Made, Stop}
 use Rattle.patr_pool.specs.declared.work.Yield.{Yield}
-use Rattle.patr_pool.specs.Outcomes.{tasks_of, Yielded}
+use Rattle.patr_pool.specs.Outcomes.{tasks_of, HasStop, Yielded}
 use Rattle.patr_pool.specs.Placing.{AreRising}
 use Rattle.patr_pool.specs.Rounds.{Seconds, any_of, IsRun, AreRuns, lists_of, IsRound}
 use Rattle.patr_pool.proofs.MorePlaces.{times-le-cons}
@@ -22,6 +21,14 @@ use Rattle.patr_pool.proofs.MorePlaces.{times-le-cons}
 or_false : (a b : Bool) → (a || b) ≡ false → (a ≡ false) × (b ≡ false)
 or_false true b e = absurd (true≢false e)
 or_false false b e = (refl, e)
+
+or_right : (a b : Bool) → b ≡ true → (a || b) ≡ true
+or_right true b e = refl
+or_right false b e = e
+
+or_true : (a b : Bool) → (a || b) ≡ true → (a ≡ true) ⊎ (b ≡ true)
+or_true true b e = inl refl
+or_true false b e = inr e
 
 any_of-push : (stops : List Bool) (stop : Bool) → any_of (stops ++ stop ∷ []) ≡ (any_of stops || stop)
 any_of-push [] true = refl
@@ -55,6 +62,12 @@ module _ {L : Type 0} (second : List ℕ → Bool → L → Type 0) where
   seconds_push (l ∷ ls) (b ∷ bs) (x ∷ xs) list stop local were now = (were.0, seconds_push ls bs xs list stop local were.1 now)
 
 module _ {T : Type 0} (first : ℕ → Outcome T → Type 0) where
+  stop_left : (xs ys : List ℕ) → HasStop first xs → HasStop first (xs ++ ys)
+  stop_left xs ys s = let there = s.1 in (s.0, omega (arith, times-append s.0 xs ys), s.2)
+
+  stop_right : (xs ys : List ℕ) → HasStop first ys → HasStop first (xs ++ ys)
+  stop_right xs ys s = let there = s.1 in (s.0, omega (arith, times-append s.0 xs ys), s.2)
+
   yielded_more : (xs ys : List ℕ) (a b : Bool) (made more : List (Yield T)) → Yielded first xs a made → Yielded first ys b more → Yielded first (xs ++ ys) (a || b) (made ++ more)
   yielded_more xs ys a b made more were now =
       let split = λ (t : ℕ). ap (times t) (map-append (λ (yield : Yield T). yield.task) made more) ∙ times-append t (tasks_of made) (tasks_of more) in record {
@@ -78,6 +91,10 @@ module _ {S L T : Type 0} (is_seat : S → Type 0) (taken : S → List ℕ) (has
           subst (λ l. Seconds second l (all.workers.0 ++ ran.stopped ∷ []) (locals ++ ran.local ∷ [])) (sym lists) (seconds_push second (map taken seats) all.workers.0 locals (taken ran.seat) ran.stopped ran.local all.workers.1 one.local),
           any_of-push all.workers.0 ran.stopped ∙ ap (λ b. b || ran.stopped) all.workers.2,
         );
+        stopper = λ stop. subst (λ (l : List ℕ). HasStop first l) (sym together) (⊎_elim
+            (λ (e : stopped ≡ true). stop_left first (all_of (map taken seats)) (taken ran.seat) (all.stopper e))
+            (λ (e : ran.stopped ≡ true). stop_right first (all_of (map taken seats)) (taken ran.seat) (one.stopper e))
+            (or_true stopped ran.stopped stop));
         yielded = subst (λ l. Yielded first l (stopped || ran.stopped) (yields ++ ran.yields.items)) (sym together) (yielded_more first (all_of (map taken seats)) (taken ran.seat) stopped ran.stopped yields ran.yields.items all.yielded one.yields);
       }
 
@@ -88,6 +105,7 @@ module _ {S L T : Type 0} (is_seat : S → Type 0) (taken : S → List ℕ) (has
         here = λ k d below. absurd (omega arith);
         ended = λ _ k d below. absurd (omega arith);
         workers = ([], tt, refl);
+        stopper = λ stop. absurd (true≢false (sym stop));
         yielded = record {
           made = λ k d below. absurd (omega arith);
           among = λ task. omega arith;
@@ -106,6 +124,7 @@ module _ {S L T : Type 0} (is_seat : S → Type 0) (taken : S → List ℕ) (has
     rising = placed.rising;
     among = λ t there. subst (λ (l : List (List ℕ)). 0 < times t (all_of l)) (sym lists) (let old = placed.among t there in let most = runs.yielded.among t in omega arith);
     others = λ t there none_made. outcome t (subst (λ (l : List (List ℕ)). 0 < times t (all_of l)) lists there) none_made;
+    stopper = λ stop. subst (λ (l : List (List ℕ)). HasStop first (all_of l)) (sym lists) (runs.stopper stop);
     every = λ went_on. subst (EachBelow tasks) (sym lists) (every (runs.ended went_on));
     nothing = λ went_on t below none_made.
         let once = every (runs.ended went_on) t below in

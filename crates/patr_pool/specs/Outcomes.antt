@@ -38,6 +38,10 @@ module _ {T : Type 0} (first : ℕ → Outcome T → Type 0) where
   abbrev pub AreMade : List (Yield T) → Type 0
   AreMade yields = All (λ yield. first yield.task (Made yield.out)) yields
 
+  -- one of these tasks said Stop
+  abbrev pub HasStop : List ℕ → Type 0
+  HasStop list = (task : ℕ) × (0 < times task list) × first task Stop
+
   -- one task's yield more, or none
   abbrev pub YieldsMore : ℕ → Bool → List (Yield T) → List (Yield T) → Type 0
   YieldsMore task stop old new = ((out : T) × (new ≡ old ++ record { task = task; out = out } ∷ []) × first task (Made out) × (stop ≡ false))

@@ -10,7 +10,7 @@ use Rattle.patr_pool.specs.declared.workers.Worker.{Worker}
 use Rattle.patr_pool.specs.declared.workers.Worker.TheVariants.{Ready, Done, Failed}
 use Rattle.patr_pool.specs.declared.gathered.Gathered.{Gathered}
 use Rattle.patr_pool.specs.declared.round.Round.{Round}
-use Rattle.patr_pool.specs.Outcomes.{tasks_of, AreMade, Yielded}
+use Rattle.patr_pool.specs.Outcomes.{tasks_of, AreMade, HasStop, Yielded}
 use Rattle.std.specs.List.Sorted.{IsStrictlyIncreasing}
 
 -- the second fact of each worker: its list, whether it stopped, and its local
@@ -38,6 +38,7 @@ module _ {S L T : Type 0} (is_seat : S → Type 0) (taken : S → List ℕ) (has
     pub ended : ran.stopped ≡ false → has_seen_none ran.seat ≡ true
     pub local : second (taken ran.seat) ran.stopped ran.local
     pub yields : Yielded first (taken ran.seat) ran.stopped ran.yields.items
+    pub stopper : ran.stopped ≡ true → HasStop first (taken ran.seat)
 
   -- a worker before its run
   abbrev pub CanRun : Worker S L T → Type 0
@@ -57,6 +58,7 @@ module _ {S L T : Type 0} (is_seat : S → Type 0) (taken : S → List ℕ) (has
     pub ended : stopped ≡ false → All (λ seat. has_seen_none seat ≡ true) seats
     pub workers : AreWorkers second (map taken seats) locals stopped
     pub yielded : Yielded first (all_of (map taken seats)) stopped yields
+    pub stopper : stopped ≡ true → HasStop first (all_of (map taken seats))
 
   abbrev pub AreGathered : Gathered S L T → Type 0
   AreGathered all = AreRuns all.seats.items all.locals.items all.yields.items all.stopped
@@ -80,6 +82,7 @@ pub record IsRound {L T : Type 0} (tasks : ℕ) (first : ℕ → Outcome T → T
   pub among : (task : ℕ) → 0 < times task (tasks_of round.yields.items) → 0 < times_in task (lists_of round)
   -- of all other tasks of the lists nothing was made
   pub others : (task : ℕ) → 0 < times_in task (lists_of round) → times task (tasks_of round.yields.items) ≡ 0 → first task Nothing ⊎ ((round.stopped ≡ true) × first task Stop)
-  -- a round that was not stopped did every task
+  -- in a round that was stopped a task said Stop, and one that was not stopped did every task
+  pub stopper : round.stopped ≡ true → HasStop first (all_of (lists_of round))
   pub every : round.stopped ≡ false → EachBelow tasks (lists_of round)
   pub nothing : round.stopped ≡ false → (task : ℕ) → task < tasks → times task (tasks_of round.yields.items) ≡ 0 → first task Nothing

@@ -1,6 +1,6 @@
 use Rattle.std.proofs.Common.{◌<◌, ◌++◌, ◌∷◌, [], List, ℕ, Bool, false, true, true≢false, sym, subst}
 use Rattle.patr_pool.specs.Outcomes.{AreTasks, Yielded}
-use Rattle.patr_pool.proofs.MoreOutcomes.{more_tasks, fewer_left, more_yields}
+use Rattle.patr_pool.proofs.MoreOutcomes.{more_tasks, fewer_left, more_yields, said_stop, stops}
 use Rattle.patr_pool.proofs.worker.work_through.Goals as goal
 
 pub returns-then-branch : goal.returns-then-branch
@@ -13,6 +13,8 @@ returns-then-branch g c =
     let yields = more_yields (g.W.Work.first_fact c.args.work.now) _ list _ _ _ i.yields taken.other c.in_ok-do_task.ensures.yields in record {
       here = c.take.ensures.here;
       ended = λ went_on. absurd (true≢false went_on);
+      stopper = λ _. stops (g.W.Work.first_fact c.args.work.now) c.in-Some.task list (g.D.Desk.taken c.take.new.seat) taken.appended
+          (said_stop (g.W.Work.first_fact c.args.work.now) _ _ _ _ c.in_ok-do_task.ensures.yields c.if-branch.true);
       local = subst (λ (l : List ℕ). g.W.Work.second_fact c.args.work.now l true c.do_task.new.local) (sym taken.appended)
           (subst (λ (stop : Bool). g.W.Work.second_fact c.args.work.now (list ++ c.in-Some.task ∷ []) stop c.do_task.new.local) c.if-branch.true second);
       yields = subst (λ (l : List ℕ). Yielded (g.W.Work.first_fact c.args.work.now) l true c.do_task.new.yields.items) (sym taken.appended)
