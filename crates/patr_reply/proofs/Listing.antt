@@ -1,10 +1,8 @@
 -- The reply to a sentence, by its parts.
-use Rattle.std.proofs.Common.{◌≡◌, ℕ, zero, suc, ◌+◌, ◌<◌, Bool, true, false, List, [], ◌∷◌, ◌++◌, length, map, take, get_or, slice_get, codes, decimal, refl, sym, ap, ◌∙◌, subst, arith, append_assoc, append-nil, ltb-true}
+use Rattle.std.proofs.Common.{◌≡◌, ℕ, suc, ◌+◌, ◌<◌, Bool, true, false, List, [], ◌∷◌, ◌++◌, length, map, take, get_or, slice_get, codes, decimal, refl, sym, ap, ◌∙◌, subst, arith, append_assoc, append-nil, ltb-true}
 use Rattle.std.specs.List.{AllByRecursion}
-use Rattle.std.proofs.lemmas.List.{length-map}
-use Rattle.patr_lists.proofs.Places.{get_there}
-use Rattle.patr_lists.specs.Members.{IsIn}
-use Rattle.patr_model.specs.Derivation.{Rules, Derivation}
+use Rattle.std.proofs.lemmas.List.{length-map, length-take-le, take_more}
+use Rattle.patr_model.specs.Derivation.{Rules}
 use Rattle.patr_model.specs.Text.{Look, canonical}
 use Rattle.patr_model.specs.Table.{table_text, table_look, text_or, total, zeros}
 use Rattle.patr_model.specs.Session.{Numbering, AgreesWith, Grounds, line, cat_of, IsLeastText, ListsAnalyses, CountsEdges, ListsAll}
@@ -17,12 +15,13 @@ use Rattle.patr_chart.specs.Charted.{derivations, tree}
 use Rattle.patr_chart.proofs.Trees.{from_length}
 use Rattle.patr_library.specs.Stored.{Stored, keys, rules_of}
 use Rattle.patr_parse.specs.Found.{Found, AreSound, IsSound}
+use Rattle.patr_parse.proofs.Members.{element_at}
 use Rattle.patr_reply.specs.Held.{AreHeldBy}
-use Rattle.patr_reply.specs.Lines.{grounds, look_by, state_of, tree_line, value_line, analysis_text, analysis_lines, count_line}
+use Rattle.patr_reply.specs.Lines.{grounds, look_by, state_of, tree_line, value_line, analysis_text, analysis_lines, listing, count_line}
 use Rattle.patr_reply.specs.Sources.{edge_value, value_at, IsReady}
-use Rattle.patr_reply.proofs.Holding.{below, are_named}
-use Rattle.patr_reply.proofs.LeastTexts.{least_text}
-use Rattle.patr_reply.proofs.Sounding.{table_long, all_ready}
+use Rattle.patr_reply.proofs.Holding.{below}
+use Rattle.patr_reply.proofs.LeastTexts.{named_text}
+use Rattle.patr_reply.proofs.Sounding.{table_long, named_below, all_ready}
 use Rattle.patr_reply.proofs.TreeText.{text_of}
 
 -- ---- the lines, one analysis after another
@@ -35,29 +34,25 @@ module _ (l m : Look) (g : Rules) (v : Shown) (es : List Edge) (features : Bool)
   lines = analysis_lines l m g v es features
 
   -- one more analysis
-  lines_more : (n : ℕ) (ks : List ℕ) (i : ℕ) → i < length ks → lines n (take (i + 1) ks) ≡ lines n (take i ks) ++ one_text (n + i) (get_or ks i 0)
-  lines_more n [] i h = absurd (omega (arith, h))
-  lines_more n (k ∷ ks) zero h = append-nil (one_text n k) ∙ ap (λ j. one_text j k) (let e : n ≡ n + 0 = omega arith in e)
-  lines_more n (k ∷ ks) (suc i) h =
-      let first = one_text n k in
-      ap (λ j. lines n (take j (k ∷ ks))) (let e : suc i + 1 ≡ suc (i + 1) = omega arith in e)
-      ∙ (ap (λ t. first ++ t) (lines_more (suc n) ks i (omega (arith, h)))
-      ∙ (sym (append_assoc first (lines (suc n) (take i ks)) (one_text (suc n + i) (get_or ks i 0)))
-      ∙ ap (λ j. (first ++ lines (suc n) (take i ks)) ++ one_text j (get_or ks i 0)) (let e : suc n + i ≡ n + suc i = omega arith in e)))
+  lines_append : (n : ℕ) (ks : List ℕ) (k : ℕ) → lines n (ks ++ k ∷ []) ≡ lines n ks ++ one_text (length ks + n) k
+  lines_append n [] k = append-nil (one_text n k) ∙ ap (λ i. one_text i k) (let e : n ≡ 0 + n = omega arith in e)
+  lines_append n (j ∷ ks) k =
+      ap (λ t. one_text n j ++ t) (lines_append (suc n) ks k) ∙ (sym (append_assoc (one_text n j) (lines (suc n) ks) (one_text (length ks + suc n) k))
+      ∙ ap (λ i. (one_text n j ++ lines (suc n) ks) ++ one_text i k) (let e : length ks + suc n ≡ suc (length ks) + n = omega arith in e))
 
   pub step_listed : (ks : List ℕ) (i : ℕ) → i < length ks → (head old middle new : List ℕ) → old ≡ head ++ lines 1 (take i ks)
       → middle ≡ old ++ tree_line l g es (i + 1) (get_or ks i 0) → new ≡ middle ++ value_line m v es features (get_or ks i 0) → new ≡ head ++ lines 1 (take (i + 1) ks)
   step_listed ks i h head old middle new is tree more =
       let k = get_or ks i 0 in
-      more ∙ (ap (λ t. t ++ value_line m v es features k) tree ∙ (append_assoc old (tree_line l g es (i + 1) k) (value_line m v es features k)
-      ∙ (ap (λ t. t ++ one_text (i + 1) k) is ∙ (append_assoc head (lines 1 (take i ks)) (one_text (i + 1) k)
-      ∙ (ap (λ j. head ++ (lines 1 (take i ks) ++ one_text j k)) (let e : i + 1 ≡ 1 + i = omega arith in e) ∙ ap (λ t. head ++ t) (sym (lines_more 1 ks i h)))))))
+      let lines_are : lines 1 (take (i + 1) ks) ≡ lines 1 (take i ks) ++ one_text (i + 1) k =
+      ap (lines 1) (take_more ks i 0 h) ∙ (lines_append 1 (take i ks) k ∙ ap (λ j. lines 1 (take i ks) ++ one_text (j + 1) k) (length-take-le i ks (omega (arith, h)))) in
+      rw lines_are (simp (more, tree, is, append_assoc))
 
 -- ---- by the table and by a numbering
 
 texts_by : (names : Numbering) (table : List (List ℕ)) → AgreesWith names table → (c : ℕ) → below (length table) c ≡ true → table_text table c ≡ names.text c
 texts_by names table agrees c h =
-    let one = get_there table c (ltb-true c (length table) h) in
+    let one = element_at table c (ltb-true c (length table) h) in
     ap (λ o. text_or o (zeros (suc (total table + c)))) one.1 ∙ sym (text_of names table agrees c one.0 one.1)
 
 pub cat_is : (names : Numbering) (table : List (List ℕ)) → Extends first_texts table → AgreesWith names table → names.number (codes "cat") ≡ 33
@@ -71,33 +66,33 @@ module _ (s : Stored) (table : List (List ℕ)) (names : Numbering) (first : Ext
   abbrev ground : Grounds
   ground = grounds names s
 
-  least_line : AreSound g s v es → (ws : List ℕ) (cat k : ℕ) → IsReady (length table) v es k → IsAnalysis (solved g cat) g ws (tree es k) → IsLeastText ground (tree es k) (canonical (table_look table []) v.structure (value_at v es k))
-  least_line sound ws cat k ready analysis =
-      let e = ready.edge in
-      let one = sound k e ready.there in
-      let at : value_of v e.root ≡ value_at v es k = ap (edge_value v) (sym ready.there) in (
-        v.structure,
-        value_of v e.root,
-        one.value,
-        ap (λ x. canonical (table_look table []) v.structure x) (sym at)
-            ∙ least_text (below (length table)) g (tree es k) v.structure (value_of v e.root) (are_named (length table) (table_long table first) s held) analysis.complete one.value
-            (table_look table []) (look_by names) refl (texts_by names table agrees),
-      )
+  module _ (sound : AreSound g s v es) (ws : List ℕ) (cat : ℕ) where
+    least_line : (k : ℕ) → IsReady (length table) v es k → IsAnalysis (solved g cat) g ws (tree es k) → IsLeastText ground (tree es k) (canonical (table_look table []) v.structure (value_at v es k))
+    least_line k ready analysis =
+        let e = ready.edge in
+        let one = sound k e ready.there in (
+          v.structure,
+          value_of v e.root,
+          one.value,
+          ap (λ o. canonical (table_look table []) v.structure (edge_value v o)) ready.there
+              ∙ named_text (below (length table)) v.structure (value_of v e.root) one.value.structure one.value.held
+              (named_below (length table) (table_long table first) s held v es sound k e ready.there analysis.complete) (table_look table []) (look_by names) refl (texts_by names table agrees),
+        )
 
-  lists : AreSound g s v es → (ws : List ℕ) (cat : ℕ) (features : Bool) (n : ℕ) (ks : List ℕ) → AllByRecursion (IsReady (length table) v es) ks → AllByRecursion (IsAnalysis (solved g cat) g ws) (map (tree es) ks)
-      → ListsAnalyses solved ground features n (map (tree es) ks) (analysis_lines (look_by names) (table_look table []) g v es features n ks)
-  lists sound ws cat true n [] ready each = refl
-  lists sound ws cat false n [] ready each = refl
-  lists sound ws cat true n (k ∷ ks) ready each = (
-    canonical (table_look table []) v.structure (value_at v es k),
-    analysis_lines (look_by names) (table_look table []) g v es true (suc n) ks,
-    least_line sound ws cat k ready.0 each.0,
-    lists sound ws cat true (suc n) ks ready.1 each.1,
-    refl,
-  )
-  lists sound ws cat false n (k ∷ ks) ready each =
-      let rest = analysis_lines (look_by names) (table_look table []) g v es false (suc n) ks in
-      (rest, lists sound ws cat false (suc n) ks ready.1 each.1, ap (λ t. t ++ rest) (append-nil (tree_line (look_by names) g es n k)))
+    lists : (features : Bool) (n : ℕ) (ks : List ℕ) → AllByRecursion (IsReady (length table) v es) ks → AllByRecursion (IsAnalysis (solved g cat) g ws) (map (tree es) ks)
+        → ListsAnalyses solved ground features n (map (tree es) ks) (analysis_lines (look_by names) (table_look table []) g v es features n ks)
+    lists true n [] ready each = refl
+    lists false n [] ready each = refl
+    lists true n (k ∷ ks) ready each = (
+      canonical (table_look table []) v.structure (value_at v es k),
+      analysis_lines (look_by names) (table_look table []) g v es true (suc n) ks,
+      least_line k ready.0 each.0,
+      lists true (suc n) ks ready.1 each.1,
+      refl,
+    )
+    lists false n (k ∷ ks) ready each =
+        let rest = analysis_lines (look_by names) (table_look table []) g v es false (suc n) ks in
+        (rest, lists false (suc n) ks ready.1 each.1, ap (λ t. t ++ rest) (append-nil (tree_line (look_by names) g es n k)))
 
   counts : (ws : List ℕ) (count : Bool) → IsChart (solved g (cat_of ground)) g ws (derivations es) → CountsEdges solved ground ws count (count_line count (length es))
   counts ws false chart = refl
@@ -106,25 +101,19 @@ module _ (s : Stored) (table : List (List ℕ)) (names : Numbering) (first : Ext
 -- the whole reply
 module _ (s : Stored) (table : List (List ℕ)) (first : Extends first_texts table) (held : AreHeldBy (length table) s) (p : Found) (names : Numbering) (agrees : AgreesWith names table) where
   pub lists_all : (ws : List ℕ) (limit : ℕ) → IsSound (rules_of s) keys.cat s ws limit p → (features count : Bool) (head text : List ℕ)
-      → head ≡ line (codes "analyses " ++ decimal (length p.analyses)) ++ analysis_lines (look_by names) (table_look table []) (rules_of s) p.shown p.chart.edges features 1 p.analyses
+      → head ≡ listing names table s p.shown p.chart.edges features (length p.analyses) p.analyses
       → text ≡ head ++ count_line count (length p.chart.edges) → ListsAll solved (grounds names s) (state_of limit features count) ws text
-  lists_all ws limit sound features count head text is more =
-      let g = rules_of s in
+  lists_all ws limit found features count head text is more =
       let es = p.chart.edges in
-      let ready = all_ready (length table) (table_long table first) s held p.shown ws 33 es sound.edges p.analyses sound.within sound.each in
-      let ts = map (tree es) p.analyses in
-      let cat : 33 ≡ names.number (codes "cat") = sym (cat_is names table first agrees) in
-      let body = analysis_lines (look_by names) (table_look table []) g p.shown es features 1 p.analyses in (
-        ts,
-        body,
+      let cat = names.number (codes "cat") in
+      let sound = subst (λ c. IsSound (rules_of s) c s ws limit p) (sym (cat_is names table first agrees)) found in
+      let ready = all_ready (length table) (table_long table first) s held p.shown es sound.edges ws cat p.analyses sound.within sound.each in (
+        map (tree es) p.analyses,
+        analysis_lines (look_by names) (table_look table []) (rules_of s) p.shown es features 1 p.analyses,
         count_line count (length es),
-        record {
-          rises = sound.rises;
-          each = subst (λ c. AllByRecursion (IsAnalysis (solved g c) g ws) ts) cat sound.each;
-          every = subst (λ c. (t : Derivation) → IsAnalysis (solved g c) g ws t → IsIn ts t) cat sound.every;
-        },
-        lists s table names first agrees held p.shown es sound.edges ws 33 features 1 p.analyses ready sound.each,
-        counts s table names first agrees held p.shown es ws count (subst (λ c. IsChart (solved g c) g ws (derivations es)) cat sound.chart),
+        record { rises = sound.rises; each = sound.each; every = sound.every },
+        lists s table names first agrees held p.shown es sound.edges ws cat features 1 p.analyses ready sound.each,
+        counts s table names first agrees held p.shown es ws count sound.chart,
         more ∙ (ap (λ t. t ++ count_line count (length es)) is
-            ∙ ap (λ n. (line (codes "analyses " ++ decimal n) ++ body) ++ count_line count (length es)) (sym (length-map p.analyses (tree es)))),
+            ∙ ap (λ n. listing names table s p.shown es features n p.analyses ++ count_line count (length es)) (sym (length-map p.analyses (tree es)))),
       )

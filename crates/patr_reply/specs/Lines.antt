@@ -1,9 +1,11 @@
 -- The lines of a reply.
 --     grounds names s         what a session over a library stands on
 --     analysis_lines          the lines of the analyses, by the edges
+--     listing                 these lines behind the one that says how many there are
 use Rattle.std.specs.Prelude.{ℕ, suc, List, [], ◌∷◌, ◌++◌, Bool, true, false, codes, decimal}
 use Rattle.patr_model.specs.Derivation.{Rules}
 use Rattle.patr_model.specs.Text.{Look, canonical, tree_text}
+use Rattle.patr_model.specs.Table.{table_look}
 use Rattle.patr_model.specs.Session.{Numbering, Grounds, State, line}
 use Rattle.patr_arena.specs.Shown.{Shown}
 use Rattle.patr_chart.specs.declared.edge.Edge.{Edge}
@@ -40,6 +42,10 @@ analysis_text l m g v es features n k = tree_line l g es n k ++ value_line m v e
 abbrev pub analysis_lines : Look → Look → Rules → Shown → List Edge → Bool → ℕ → List ℕ → List ℕ
 analysis_lines l m g v es features n [] = []
 analysis_lines l m g v es features n (k ∷ ks) = analysis_text l m g v es features n k ++ analysis_lines l m g v es features (suc n) ks
+
+-- the lines of these analyses of a library's chart, behind the line that says that there are n
+abbrev pub listing : Numbering → List (List ℕ) → Stored → Shown → List Edge → Bool → ℕ → List ℕ → List ℕ
+listing names table s v es features n ks = line (codes "analyses " ++ decimal n) ++ analysis_lines (look_by names) (table_look table []) (rules_of s) v es features 1 ks
 
 -- the line on the number of edges, where it is asked for
 abbrev pub count_line : Bool → ℕ → List ℕ

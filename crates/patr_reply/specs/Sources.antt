@@ -4,7 +4,8 @@
 use Rattle.std.specs.Prelude.{◌≡◌, ℕ, ◌<◌, List, Option, Some, None, slice_get}
 use Rattle.std.specs.List.{AllByRecursion}
 use Rattle.patr_model.specs.Structure.{Value, Atom}
-use Rattle.patr_model.specs.Derivation.{RuleVariant, EntryVariant, entry_variant, rule_variant}
+use Rattle.patr_model.specs.Derivation.{RuleVariant, entry_variant, rule_variant}
+use Rattle.patr_model.specs.Text.{entry_category, entry_word}
 use Rattle.patr_lexicon.specs.declared.lexicon.Entry as code
 use Rattle.patr_arena.specs.Shown.{Shown, ValueIsHeld, value_of}
 use Rattle.patr_chart.specs.declared.edge.EdgeKind.{EdgeKind}
@@ -20,10 +21,8 @@ pub record IsEntryOf (n : ℕ) (s : Stored) (entry variant : ℕ) : Type 0 where
   pub there : slice_get s.lexicon entry ≡ Some entry_is
   pub category : entry_is.category.0 < n
   pub word : entry_is.word.0 < n
-  pub variant_is : EntryVariant
-  pub is : entry_variant (rules_of s) entry variant ≡ Some variant_is
-  pub same_category : variant_is.category ≡ entry_is.category.0
-  pub same_word : variant_is.word ≡ entry_is.word.0
+  pub same_category : entry_category (entry_variant (rules_of s) entry variant) ≡ entry_is.category.0
+  pub same_word : entry_word (entry_variant (rules_of s) entry variant) ≡ entry_is.word.0
 
 -- the library has an item of this variant of a rule, and its categories have texts
 pub record IsRuleOf (n : ℕ) (s : Stored) (rule variant item : ℕ) : Type 0 where

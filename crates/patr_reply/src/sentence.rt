@@ -11,7 +11,7 @@ ghost use Rattle.patr_library.specs.Stored.{keys, rules_of};
 ghost use Rattle.patr_parse.specs.Found.{IsSound};
 ghost use Rattle.patr_parse.specs.Sentences.{IsParsed};
 ghost use Rattle.patr_reply.specs.Held.{AreHeldBy};
-ghost use Rattle.patr_reply.specs.Lines.{analysis_lines, count_line, grounds, look_by, state_of, value_line};
+ghost use Rattle.patr_reply.specs.Lines.{count_line, grounds, listing, look_by, state_of, value_line};
 ghost use Rattle.patr_reply.specs.Sources.{AreOfLibrary, IsReady};
 
 use crate::tree::write_tree;
@@ -52,8 +52,7 @@ fn write_value<N: Nodes>(
     number: u32,
     out: &mut String,
 ) -> Result<(), Memory>
-    requires number { number < length chart.now.edges }
-    requires ready { IsReady (length symbols.now) (N.shown nodes.now) chart.now.edges number }
+    requires { IsReady (length symbols.now) (N.shown nodes.now) chart.now.edges number }
     ensures { IfOk result (λ _. string_bytes out.new ≡ string_bytes out.old ++ value_line (table_look symbols.now []) (N.shown nodes.now) chart.now.edges features number) }
 {
     if !features {
@@ -75,10 +74,9 @@ fn listed<N: Nodes>(
     features: bool,
 ) -> Result<String, Memory>
     requires roots { AreOfLibrary (length symbols.now) library.now chart.now.edges }
-    requires within { AllByRecursion (λ k. k < length chart.now.edges) analyses.now }
     requires ready { AllByRecursion (IsReady (length symbols.now) (N.shown nodes.now) chart.now.edges) analyses.now }
-    ensures { (names : Numbering) → AgreesWith names symbols.now → IfOk result (λ text. string_bytes text ≡ line (codes "analyses " ++ decimal (length analyses.now))
-        ++ analysis_lines (look_by names) (table_look symbols.now []) (rules_of library.now) (N.shown nodes.now) chart.now.edges features 1 analyses.now) }
+    ensures { (names : Numbering) → AgreesWith names symbols.now → IfOk result (λ text. string_bytes text
+        ≡ listing names symbols.now library.now (N.shown nodes.now) chart.now.edges features (length analyses.now) analyses.now) }
 {
     let mut text = format!(in alloc; "analyses {}\n", analyses.len())?;
     for (place, number) in analyses.iter().enumerate() {

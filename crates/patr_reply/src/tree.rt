@@ -1,13 +1,15 @@
 //! The text of a tree, by a stack of parts that are still to be written.
-ghost use Rattle.std.specs.Prelude.{◌≡◌, ◌<◌, ◌++◌, ◌∷◌, [], length, slice_get, Some, IfOk};
+ghost use Rattle.std.specs.Prelude.{◌≡◌, ℕ, ◌<◌, ◌++◌, ◌∷◌, [], length, slice_get, Some, IfOk};
+ghost use Rattle.std.specs.List.{AllByRecursion};
 ghost use Rattle.std.specs.String.{string_bytes};
-ghost use Rattle.patr_model.specs.Text.{printed, tree_text};
+ghost use Rattle.patr_model.specs.Derivation.{rule_variant};
+ghost use Rattle.patr_model.specs.Text.{mother_category, printed, tree_text};
 ghost use Rattle.patr_model.specs.Session.{Numbering, AgreesWith};
 ghost use Rattle.patr_chart.specs.Charted.{tree};
-ghost use Rattle.patr_library.specs.Stored.{rules_of, IsStored};
+ghost use Rattle.patr_library.specs.Stored.{rules_of};
 ghost use Rattle.patr_reply.specs.Lines.{look_by};
-ghost use Rattle.patr_reply.specs.Sources.{IsOfLibrary, AreOfLibrary};
-ghost use Rattle.patr_reply.specs.Writing.{root_text, steps_weight, IsHeld, AreHeld, IsWritten};
+ghost use Rattle.patr_reply.specs.Sources.{IsRuleOf, IsOfLibrary, AreOfLibrary};
+ghost use Rattle.patr_reply.specs.Writing.{root_text, IsHeld, IsStep};
 
 use patr_canon::write_printed;
 use patr_chart::{Chart, EdgeKind};
@@ -16,19 +18,19 @@ use patr_library::{Library, RuleItem};
 use patr_text::{Id, Memory, Symbols};
 use std::alloc::Global;
 
-/// A part of a tree's text that is still to be written: an edge's tree without its last bracket, or what stands around
-/// one.
+/// A part of a tree's text that is still to be written: an edge's tree without its last bracket, or a character that
+/// stands around one.
 #[derive(Clone, Copy)]
 enum Step {
     Tree(u32),
-    Space,
-    Close,
+    Mark(char),
 }
 
 /// Appends the text of a symbol.
 fn write_symbol(symbols: &Symbols, symbol: Id, out: &mut String) -> Result<(), Memory>
     requires { symbol.0 < length symbols.now }
-    ensures { (names : Numbering) → AgreesWith names symbols.now → IfOk result (λ _. string_bytes out.new ≡ string_bytes out.old ++ printed (names.text symbol.0)) }
+    ensures { IfOk result (λ _. (names : Numbering) → AgreesWith names symbols.now
+        → string_bytes out.new ≡ string_bytes out.old ++ printed (names.text symbol.0)) }
 {
     write_printed(symbols.text(symbol), out)
 }
@@ -44,8 +46,8 @@ fn entry_at(library: &Library, number: u32) -> &Entry
 /// The item of a rule's variant, by its place.
 fn rule_item(library: &Library, place: u32) -> &RuleItem
     requires { place < length library.now.rules }
-    ensures there { slice_get library.now.rules place ≡ Some result.now }
-    ensures stored { IsStored library.now }
+    ensures { (n rule variant : ℕ) → IsRuleOf n library.now rule variant place
+        → (mother_category (rule_variant (rules_of library.now) rule variant) ≡ result.now.mother.0) × (result.now.mother.0 < n) }
 {
     &library.rules()[place as usize]
 }
@@ -58,7 +60,8 @@ fn write_root(
     out: &mut String,
 ) -> Result<(), Memory>
     requires { IsOfLibrary (length symbols.now) library.now kind }
-    ensures { (names : Numbering) → AgreesWith names symbols.now → IfOk result (λ _. string_bytes out.new ≡ string_bytes out.old ++ root_text (look_by names) (rules_of library.now) kind) }
+    ensures { IfOk result (λ _. (names : Numbering) → AgreesWith names symbols.now
+        → string_bytes out.new ≡ string_bytes out.old ++ root_text (look_by names) (rules_of library.now) kind) }
 {
     out.push('(')?;
     match kind {
@@ -86,20 +89,20 @@ fn write_next(
 ) -> Result<(), Memory>
     requires roots { AreOfLibrary (length symbols.now) library.now chart.now.edges }
     requires number { number < length chart.now.edges }
-    requires held { AreHeld (length chart.now.edges) left.old.items }
-    ensures text { (names : Numbering) → AgreesWith names symbols.now → IfOk result (λ _. IsWritten (look_by names) (rules_of library.now) chart.now.edges (Step.Tree number) left.old.items (string_bytes out.old) left.new.items (string_bytes out.new)) }
-    ensures falls { IfOk result (λ _. steps_weight chart.now.edges left.new.items < steps_weight chart.now.edges (left.old.items ++ Step.Tree number ∷ [])) }
-    ensures held { IfOk result (λ _. AreHeld (length chart.now.edges) left.new.items) }
+    requires held { AllByRecursion (IsHeld (length chart.now.edges)) left.old.items }
+    ensures { IfOk result (λ _. IsStep symbols.now (rules_of library.now) chart.now.edges (left.old.items ++ Step.Tree number ∷ [])
+        (string_bytes out.old) left.new.items (string_bytes out.new)) }
 {
     let edge = chart.edge(number);
     let Some(back) = edge.back else {
         return write_root(symbols, library, edge.kind, out);
     };
-    left.push(Step::Close)?;
-    left.push(Step::Tree(back.passive))?;
-    left.push(Step::Space)?;
-    left.push(Step::Tree(back.active))?;
-    Ok(())
+    left.extend_from_slice(&[
+        Step::Mark(')'),
+        Step::Tree(back.passive),
+        Step::Mark(' '),
+        Step::Tree(back.active),
+    ])
 }
 
 /// Appends the next part, or puts what it is made of before what is left.
@@ -113,15 +116,13 @@ fn write_step(
 ) -> Result<(), Memory>
     requires roots { AreOfLibrary (length symbols.now) library.now chart.now.edges }
     requires step { IsHeld (length chart.now.edges) step }
-    requires held { AreHeld (length chart.now.edges) left.old.items }
-    ensures text { (names : Numbering) → AgreesWith names symbols.now → IfOk result (λ _. IsWritten (look_by names) (rules_of library.now) chart.now.edges step left.old.items (string_bytes out.old) left.new.items (string_bytes out.new)) }
-    ensures falls { IfOk result (λ _. steps_weight chart.now.edges left.new.items < steps_weight chart.now.edges (left.old.items ++ step ∷ [])) }
-    ensures held { IfOk result (λ _. AreHeld (length chart.now.edges) left.new.items) }
+    requires held { AllByRecursion (IsHeld (length chart.now.edges)) left.old.items }
+    ensures { IfOk result (λ _. IsStep symbols.now (rules_of library.now) chart.now.edges (left.old.items ++ step ∷ [])
+        (string_bytes out.old) left.new.items (string_bytes out.new)) }
 {
     match step {
         Step::Tree(number) => write_next(symbols, library, chart, number, left, out),
-        Step::Space => out.push(' '),
-        Step::Close => out.push(')'),
+        Step::Mark(mark) => out.push(mark),
     }
 }
 

@@ -1,4 +1,4 @@
-use Rattle.std.proofs.Common.{◌≡◌, ◌++◌, sym, ap, ◌∙◌}
+use Rattle.std.proofs.Common.{◌++◌, sym, ap, ◌∙◌}
 use Rattle.std.specs.String.{string_bytes}
 use Rattle.std.proofs.lemmas.Result.{IfOk-weaker}
 use Rattle.patr_model.specs.Text.{printed}
@@ -6,8 +6,6 @@ use Rattle.patr_reply.proofs.TreeText.{text_of}
 use Rattle.patr_reply.proofs.tree.write_symbol.Goals as goal
 
 pub returns : goal.returns
-returns c = λ names agrees.
-    let old = string_bytes c.args.out.now in
-    let now = string_bytes c.write_printed.new.out in
-    IfOk-weaker c.write_printed.result (λ _. now ≡ old ++ printed c.text.result.now) (λ _. now ≡ old ++ printed (names.text c.args.symbol.0))
-    (λ _ h. h ∙ ap (λ t. old ++ printed t) (sym (text_of names c.args.symbols.now agrees c.args.symbol.0 c.text.result.now c.text.ensures))) c.write_printed.ensures
+returns c =
+    IfOk-weaker c.write_printed.result _ _
+    (λ _ h names agrees. h ∙ ap (λ t. string_bytes c.args.out.now ++ printed t) (sym (text_of names c.args.symbols.now agrees c.args.symbol.0 c.text.result.now c.text.ensures))) c.write_printed.ensures

@@ -1,18 +1,19 @@
 use Rattle.std.proofs.Common.{◌≡◌, ◌++◌, length}
+use Rattle.std.specs.List.{AllByRecursion}
 use Rattle.std.specs.String.{string_bytes}
 use Rattle.patr_model.specs.Text.{open_tree}
 use Rattle.patr_model.specs.Session.{Numbering, AgreesWith}
 use Rattle.patr_chart.specs.Charted.{tree}
 use Rattle.patr_library.specs.Stored.{rules_of}
 use Rattle.patr_reply.specs.Lines.{look_by}
-use Rattle.patr_reply.specs.Writing.{steps_text, steps_weight, AreHeld}
+use Rattle.patr_reply.specs.Writing.{steps_text, steps_weight, IsHeld}
 use Rattle.patr_reply.proofs.tree.write_tree.Given as goal
 
 abbrev pub invariant-loop-step : goal.invariant-loop-step
 invariant-loop-step l =
     ((names : Numbering) → AgreesWith names l.symbols → string_bytes l.out ++ steps_text (look_by names) (rules_of l.library) l.chart.edges l.left.items
     ≡ string_bytes l.fn.out ++ open_tree (look_by names) (rules_of l.library) (tree l.chart.edges l.number))
-    × AreHeld (length l.chart.edges) l.left.items
+    × AllByRecursion (IsHeld (length l.chart.edges)) l.left.items
 
 abbrev pub decreases-loop-step : goal.decreases-loop-step
 decreases-loop-step l = steps_weight l.chart.edges l.left.items
