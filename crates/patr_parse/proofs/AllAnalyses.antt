@@ -21,7 +21,8 @@ use Rattle.patr_library.specs.Stored.{Stored, HasItems, keys}
 use Rattle.patr_parse.specs.declared.analyses.Analysis.{Analysis}
 use Rattle.patr_parse.specs.Found.{AreSound}
 use Rattle.patr_parse.specs.Analyses.{is_whole, HasKey, edge_of, AreAll}
-use Rattle.patr_parse.proofs.Members.{all_of, weaker, one_place}
+use Rattle.patr_parse.proofs.Members.{all_of, weaker}
+use Rattle.patr_parse.proofs.Numbers.{one_number}
 use Rattle.patr_parse.proofs.Picked.{tally, times, places_once}
 use Rattle.patr_parse.proofs.Ordered.{analysis_cmp, adjacent, rises}
 use Rattle.patr_parse.proofs.WholeEdges.{trees_length, edge_of_tree, have_least, edge_is_analysis, analysis_passes}
@@ -75,7 +76,7 @@ module _ (g : Rules) (s : Stored) (items : HasItems g s.shown s.rules s.entries)
   told : (k l : ℕ) → IsGood k → IsGood l → key (tree es k) ≡ key (tree es l) → k ≡ l
   told k l h i e =
       let same = (keys_tell g ws (tree es k) (tree es l) [] [] h.1.derivation i.1.derivation h.1.complete i.1.complete (h.1.start ∙ sym i.1.start) (ap (λ x. x ++ []) e)).0 in
-      one_place (derivations es) (Begin 0 0 0) chart.once k l (omega (arith, trees_length es, h.0)) (omega (arith, trees_length es, i.0)) same
+      one_number (derivations es) (Begin 0 0 0) chart.once k l (omega (arith, trees_length es, h.0)) (omega (arith, trees_length es, i.0)) same
 
   abbrev found : List ℕ
   found = places (is_whole v (length ws) g.start) 0 es

@@ -29,18 +29,3 @@ counts_below S x y on N A n a c d =
     let nodes = stack_room d.list c.list d.is.once within in
     let arcs = total_room (λ k. length (own S k)) d.list c.list d.is.once within in
     (omega (arith, nodes, c.nodes_are, d.nodes_are), omega (arith, arcs, c.arcs_are, d.arcs_are))
-
-total_same : (f g : ℕ → ℕ) (ks : List ℕ) → ((k : ℕ) → IsIn ks k → f k ≡ g k) → total f ks ≡ total g ks
-total_same f g [] h = refl
-total_same f g (k ∷ ks) h = let here = h k (inl refl) in let rest = total_same f g ks (λ j i. h j (inr i)) in omega (arith, here, rest)
-
--- in a longer structure as much is reached as before
-pub counts_less : (S N : Structure) (x : Value) → IsStructure S → IsValue S x → (n a : ℕ) → Counts (S ++ N) x n a → Counts S x n a
-counts_less S N x s h n a c = record {
-  list = c.list;
-  is = record { once = c.is.once; reached = λ k i. reached_less S N s x k h (c.is.reached k i); all = λ k r. c.is.all k (reached_more S N s x k h r) };
-  nodes_are = c.nodes_are;
-  arcs_are = total_same (λ k. length (own S k)) (λ k. length (own (S ++ N) k)) c.list (λ k i.
-      ap length (sym (get_or_append_left S N [] k (reached_value S N s x k h (reached_less S N s x k h (c.is.reached k i))))))
-      ∙ c.arcs_are;
-}

@@ -24,8 +24,7 @@ use Rattle.patr_chart.proofs.Trees.{get_below, from_length}
 use Rattle.patr_library.specs.Stored.{Stored, Bounds, root_of}
 use Rattle.patr_parse.specs.Found.{IsRootOf, IsItemRoot, IsJoined, HasSource, IsSoundEdge, AreSound}
 use Rattle.patr_parse.specs.Tasks.{made_by, ItemsAreHeld, IsReady, AreWaiting}
-use Rattle.patr_parse.proofs.Longer.{keeps_longer}
-use Rattle.patr_parse.proofs.Counted.{counts_less}
+use Rattle.patr_parse.proofs.Moved.{counts_longer, keeps_longer}
 
 -- ---- more nodes
 
@@ -48,14 +47,14 @@ module _ (v w : Shown) (sv : IsShown v) (sw : IsShown w) (e : Extends v w) where
 
   pub bounds_still : (x : its.Value) → ValueIsHeld v x → (nodes arcs : ℕ) → Bounds v (value_of v x) nodes arcs → Bounds w (value_of w x) nodes arcs
   bounds_still x h nodes arcs b = λ n a c.
-      b n a (counts_less v.structure e.structure.0 (value_of v x) sv.structure (value_below v sv x h) n a
+      b n a (counts_longer v.structure e.structure.0 sv.structure long (value_of v x) (value_below v sv x h) n a
       (subst (λ S. Counts S (value_of v x) n a) e.structure.1 (subst (λ y. Counts w.structure y n a) (same_value x h) c)))
 
   pub root_still : (f : Edge) → ValueIsHeld v f.root → (u : Value) → IsValue v.structure u → IsRootOf v f u → IsRootOf w f u
   root_still f h u hu (inl r) = inl (r.0, same_value f.root h ∙ r.1)
   root_still f h u hu (inr r) = inr (r.0, ap (λ S. arc S u 0) e.structure.1 ∙ (arc_of_longer v.structure e.structure.0 u hu 0 ∙ (r.1 ∙ ap (λ y. Some y) (sym (same_value f.root h)))))
 
-  back : (l r : Value) (a p : its.Value) → ValueIsHeld v a → ValueIsHeld v p → value_of v a ≡ l → value_of v p ≡ r
+  pub back : (l r : Value) (a p : its.Value) → ValueIsHeld v a → ValueIsHeld v p → value_of v a ≡ l → value_of v p ≡ r
       → (P : Structure → Value → Value → Type 0) → P (v.structure ++ e.structure.0) l r → P w.structure (value_of w a) (value_of w p)
   back l r a p ha hp is_l is_r P h =
       subst (λ G. P G (value_of w a) (value_of w p)) (sym e.structure.1)
@@ -75,7 +74,7 @@ module _ (v w : Shown) (sv : IsShown v) (sw : IsShown w) (e : Extends v w) where
         unifier = back l r a.root p.root ha hp refl refl (λ G x y. IsUnifier G x (slot ∷ []) G y G u)
             (longer_keeps.unifier S N l r u (slot ∷ []) sv.structure long hl hr j.unifier);
         keeps = back l r a.root p.root ha hp refl refl (λ G x y. (i : Images G x (slot ∷ []) G y G u) → Keeps G x (slot ∷ []) G y G u i)
-            (λ i. keeps_longer S N S N l r u (slot ∷ []) sv.structure sv.structure hl hr j.unifier.takes.held i j.keeps);
+            (λ i. keeps_longer S N sv.structure long l r u (slot ∷ []) hl hr j.unifier.takes.held i j.keeps);
         root = root_still f hf u j.unifier.takes.held j.root;
       }
 

@@ -16,7 +16,7 @@ use Rattle.patr_library.specs.declared.item.EntryItem.{EntryItem}
 use Rattle.patr_library.specs.Stored.{Stored, Rises, IsStored, IsRuleItem, IsEntryItem, rules_of, root_of, is_of_mother, is_of_word}
 use Rattle.patr_parse.specs.Tasks.{Has}
 use Rattle.patr_parse.specs.Begun.{begun_of, begun, leaf_of, leaf, begun_at, leaves_at, leaves_from}
-use Rattle.patr_parse.proofs.Numbers.{Rising, rising_of, has_contains, contains_has}
+use Rattle.patr_parse.proofs.Numbers.{Rising, rising_of, has_contains, contains_has, in_map, map_in, once_map}
 
 -- ---- the members of a list that pass a test
 
@@ -32,30 +32,6 @@ module _ {X : Type 0} (test : X → Bool) (xs : List X) where
 
   pub placed_rise : Rising 0 (places test 0 xs)
   placed_rise = rising_of 0 (places test 0 xs) (λ h. omega arith) (places_rise test 0 xs)
-
-above : (k : ℕ) (ns : List ℕ) (n : ℕ) → Rising k ns → Has ns n → k ≤ n
-above k [] n r h = absurd h
-above k (m ∷ ns) n r (inl q) = omega (arith, r.0, q)
-above k (m ∷ ns) n r (inr h) = omega (arith, r.0, above (suc m) ns n r.1 h)
-
--- the derivations of some numbers
-module _ (f : ℕ → Derivation) where
-  pub in_map : (ns : List ℕ) (t : Derivation) → IsIn (map f ns) t → (n : ℕ) × Has ns n × (f n ≡ t)
-  in_map [] t h = absurd h
-  in_map (n ∷ ns) t (inl q) = (n, inl refl, q)
-  in_map (n ∷ ns) t (inr h) = let r = in_map ns t h in (r.0, inr r.1, r.2)
-
-  pub map_in : (ns : List ℕ) (n : ℕ) → Has ns n → IsIn (map f ns) (f n)
-  map_in [] n h = absurd h
-  map_in (m ∷ ns) n (inl q) = inl (ap f q)
-  map_in (m ∷ ns) n (inr h) = inr (map_in ns n h)
-
-  pub once_map : (k : ℕ) (ns : List ℕ) → ((m n : ℕ) → Has ns m → Has ns n → f m ≡ f n → m ≡ n) → Rising k ns → EachOnce (map f ns)
-  once_map k [] one r = tt
-  once_map k (n ∷ ns) one r = (
-    (λ h. (let a = in_map ns (f n) h in let same = one a.0 n (inr a.1) (inl refl) a.2 in omega (arith, above (suc n) ns a.0 r.1 a.1, same))),
-    once_map (suc n) ns (λ i j hi hj q. one i j (inr hi) (inr hj) q) r.1,
-  )
 
 -- ---- pairs that rise differ
 

@@ -9,6 +9,10 @@ pub all_more : {X : Type 0} (P : X → Type 0) (xs : List X) (x : X) → AllByRe
 all_more P [] x h k = (k, tt)
 all_more P (y ∷ xs) x h k = (h.0, all_more P xs x h.1 k)
 
+pub all_append : {X : Type 0} (P : X → Type 0) (xs ys : List X) → AllByRecursion P xs → AllByRecursion P ys → AllByRecursion P (xs ++ ys)
+all_append P [] ys h k = k
+all_append P (x ∷ xs) ys h k = (h.0, all_append P xs ys h.1 k)
+
 pub all_there : {X : Type 0} (P : X → Type 0) (xs : List X) (i : ℕ) (x : X) → AllByRecursion P xs → slice_get xs i ≡ Some x → P x
 all_there P [] i x a h = cc
 all_there P (y ∷ xs) zero x a h = subst P (some_inj y x h) a.0
@@ -41,15 +45,13 @@ place_of [] d t h = absurd h
 place_of (u ∷ ts) d t (inl e) = (0, omega arith, e)
 place_of (u ∷ ts) d t (inr h) = let r = place_of ts d t h in (suc r.0, omega (arith, r.1), r.2)
 
-at_in : (ts : List Derivation) (d : Derivation) (j : ℕ) → j < length ts → IsIn ts (get_or ts j d)
-at_in [] d j h = absurd (omega (arith, h))
-at_in (u ∷ ts) d zero h = inl refl
-at_in (u ∷ ts) d (suc j) h = inr (at_in ts d j (omega (arith, h)))
+pub among : {X : Type 0} (P : X → Type 0) (ys zs : List X) (x : X) (all : List X) → ys ++ x ∷ zs ≡ all → AllByRecursion P all → P x
+among {X = X} P ys zs x all is h = go ys (subst (AllByRecursion P) (sym is) h)
+  where
+    go : (ys : List X) → AllByRecursion P (ys ++ x ∷ zs) → P x
+    go [] a = a.0
+    go (y ∷ ys) a = go ys a.1
 
--- a list without repeats has each member at one place
-pub one_place : (ts : List Derivation) (d : Derivation) → EachOnce ts → (i j : ℕ) → i < length ts → j < length ts → get_or ts i d ≡ get_or ts j d → i ≡ j
-one_place [] d o i j h k e = absurd (omega (arith, h))
-one_place (t ∷ ts) d o zero zero h k e = refl
-one_place (t ∷ ts) d o zero (suc j) h k e = absurd (o.0 (subst (λ u. IsIn ts u) (sym e) (at_in ts d j (omega (arith, k)))))
-one_place (t ∷ ts) d o (suc i) zero h k e = absurd (o.0 (subst (λ u. IsIn ts u) e (at_in ts d i (omega (arith, h)))))
-one_place (t ∷ ts) d o (suc i) (suc j) h k e = ap (λ n. suc n) (one_place ts d o.1 i j (omega (arith, h)) (omega (arith, k)) e)
+pub nothing_left : {X : Type 0} (xs : List X) → length xs ≡ 0 → xs ≡ []
+nothing_left [] h = refl
+nothing_left (x ∷ xs) h = absurd (omega arith)

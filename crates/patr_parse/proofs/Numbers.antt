@@ -1,5 +1,5 @@
 -- Lists of edge numbers, and members by number.
-use Rattle.std.proofs.Common.{◌≡◌, ◌⊎◌, inl, inr, ℕ, zero, suc, ◌+◌, ◌<◌, ◌≤◌, List, [], ◌∷◌, ◌++◌, length, take, get_or, refl, sym, ap, arith, subst}
+use Rattle.std.proofs.Common.{◌≡◌, ◌⊎◌, inl, inr, ℕ, zero, suc, ◌+◌, ◌<◌, ◌≤◌, List, [], ◌∷◌, ◌++◌, length, map, take, get_or, refl, sym, ap, arith, subst}
 use Rattle.patr_model.specs.Derivation.{Derivation}
 use Rattle.patr_model.specs.Chart.{IsIn, EachOnce}
 use Rattle.std.specs.List.{Contains}
@@ -105,3 +105,27 @@ has_taken xs zero j h = absurd h
 has_taken [] (suc i) j h = h
 has_taken (x ∷ xs) (suc i) j (inl e) = inl e
 has_taken (x ∷ xs) (suc i) j (inr h) = inr (has_taken xs i j h)
+
+above : (k : ℕ) (ns : List ℕ) (n : ℕ) → Rising k ns → Has ns n → k ≤ n
+above k [] n r h = absurd h
+above k (m ∷ ns) n r (inl q) = omega (arith, r.0, q)
+above k (m ∷ ns) n r (inr h) = omega (arith, r.0, above (suc m) ns n r.1 h)
+
+-- the derivations of some numbers
+module _ (f : ℕ → Derivation) where
+  pub in_map : (ns : List ℕ) (t : Derivation) → IsIn (map f ns) t → (n : ℕ) × Has ns n × (f n ≡ t)
+  in_map [] t h = absurd h
+  in_map (n ∷ ns) t (inl q) = (n, inl refl, q)
+  in_map (n ∷ ns) t (inr h) = let r = in_map ns t h in (r.0, inr r.1, r.2)
+
+  pub map_in : (ns : List ℕ) (n : ℕ) → Has ns n → IsIn (map f ns) (f n)
+  map_in [] n h = absurd h
+  map_in (m ∷ ns) n (inl q) = inl (ap f q)
+  map_in (m ∷ ns) n (inr h) = inr (map_in ns n h)
+
+  pub once_map : (k : ℕ) (ns : List ℕ) → ((m n : ℕ) → Has ns m → Has ns n → f m ≡ f n → m ≡ n) → Rising k ns → EachOnce (map f ns)
+  once_map k [] one r = tt
+  once_map k (n ∷ ns) one r = (
+    (λ h. (let a = in_map ns (f n) h in let same = one a.0 n (inr a.1) (inl refl) a.2 in omega (arith, above (suc n) ns a.0 r.1 a.1, same))),
+    once_map (suc n) ns (λ i j hi hj q. one i j (inr hi) (inr hj) q) r.1,
+  )

@@ -5,41 +5,18 @@ use Rattle.patr_model.specs.Derivation.{Rules, Derivation, Begin}
 use Rattle.patr_model.specs.Chart.{IsIn, EachOnce}
 use Rattle.patr_model.specs.Rounds.{ArePairs, ArePairsOf, HasPairs}
 use Rattle.patr_model.proofs.Rounds.{counted}
+use Rattle.patr_arena.specs.Shown.{Shown}
 use Rattle.patr_chart.specs.declared.edge.Edge.{Edge}
 use Rattle.patr_chart.specs.Edges.{is_passive}
 use Rattle.patr_chart.specs.Charted.{AreEdges, is_partner, partners, partners_of, derivations, tree}
 use Rattle.patr_chart.proofs.Places.{places_length}
 use Rattle.patr_chart.proofs.Trees.{get_below}
 use Rattle.patr_chart.specs.Laws.{KindsFit}
+use Rattle.patr_parse.specs.declared.draft.Draft.{Draft}
+use Rattle.patr_parse.specs.Drafts.{AreMade, TaskGave}
 use Rattle.patr_parse.specs.Tasks.{pair, Has}
-use Rattle.patr_parse.proofs.Numbers.{Rising, in_taken, one_number}
-use Rattle.patr_parse.proofs.Tasks.{trees_length, pair_differs, is_partner_of, rising_partners, of_pair, has_pair}
-
-in_pairs : (b : Bool) (es : List Edge) (k : ℕ) (js : List ℕ) (t : Derivation) → IsIn (map (pair b es k) js) t → (j : ℕ) × Has js j × (t ≡ pair b es k j)
-in_pairs b es k [] t h = absurd h
-in_pairs b es k (j ∷ js) t (inl e) = (j, inl refl, sym e)
-in_pairs b es k (j ∷ js) t (inr h) = let r = in_pairs b es k js t h in (r.0, inr r.1, r.2)
-
-pairs_in : (b : Bool) (es : List Edge) (k : ℕ) (js : List ℕ) (j : ℕ) → Has js j → IsIn (map (pair b es k) js) (pair b es k j)
-pairs_in b es k [] j h = absurd h
-pairs_in b es k (i ∷ js) j (inl e) = inl (ap (λ n. pair b es k n) e)
-pairs_in b es k (i ∷ js) j (inr h) = inr (pairs_in b es k js j h)
-
-above : (n : ℕ) (js : List ℕ) (j : ℕ) → Rising n js → Has js j → n ≤ j
-above n [] j r h = absurd h
-above n (x ∷ js) j r (inl e) = omega (arith, r.0, e)
-above n (x ∷ js) j r (inr h) = omega (arith, r.0, above (suc x) js j r.1 h)
-
-once_pairs : (es : List Edge) → EachOnce (derivations es) → (b : Bool) (k n : ℕ) (js : List ℕ) → Rising n js → ((j : ℕ) → Has js j → j < length es) → EachOnce (map (pair b es k) js)
-once_pairs es once b k n [] r below = tt
-once_pairs es once b k n (x ∷ js) r below = (
-  λ h.
-      let i = in_pairs b es k js (pair b es k x) h in
-      let same : x ≡ i.0 = pair_differs es once b k x i.0 (below x (inl refl)) (below i.0 (inr i.1)) i.2 in
-      let high : suc x ≤ i.0 = above (suc x) js i.0 r.1 i.1 in
-      omega (arith, same, high),
-  once_pairs es once b k (suc x) js r.1 (λ j h. below j (inr h)),
-)
+use Rattle.patr_parse.proofs.Numbers.{in_map, in_taken, map_in, once_map, one_number}
+use Rattle.patr_parse.proofs.Tasks.{trees_length, pair_differs, is_partner_of, rising_partners, of_pair, has_pair, task_done}
 
 -- an edge has no more partners than there are edges
 pub partners_few : (es : List Edge) (k : ℕ) → length (partners es k) ≤ length es
@@ -52,10 +29,13 @@ partners_few es k = go (slice_get es k)
 module _ (g : Rules) (words : ℕ) (es : List Edge) (all : AreEdges words es) (fit : KindsFit g es) (once : EachOnce (derivations es)) (k : ℕ) (e : Edge) (at : slice_get es k ≡ Some e) where
   pub task_pairs : (b : Bool) → is_passive e ≡ b → ArePairsOf g (take k (derivations es)) (tree es k) (map (pair b es k) (partners es k))
   task_pairs b q = record {
-    once = once_pairs es once b k 0 (partners es k) (rising_partners es k e at) (λ j h. let p = is_partner_of es k e at j h in get_below es j p.0 p.2);
-    pairs = λ t h. let r = in_pairs b es k (partners es k) t h in of_pair (λ t. Unit {0}) g words es all fit k e at b q r.0 t r.1 r.2;
-    every = λ t h. let r = has_pair (λ t. Unit {0}) g words es all fit k e at b q t h in subst (λ u. IsIn (map (pair b es k) (partners es k)) u) r.2 (pairs_in b es k (partners es k) r.0 r.1);
+    once = once_map (pair b es k) 0 (partners es k) (λ m n hm hn. pair_differs es once b k m n (below m hm) (below n hn)) (rising_partners es k e at);
+    pairs = λ t h. let r = in_map (pair b es k) (partners es k) t h in of_pair g words es all fit k e at b q r.0 t r.1 (sym r.2);
+    every = λ t h. let r = has_pair g words es all fit k e at b q t h in subst (λ u. IsIn (map (pair b es k) (partners es k)) u) r.2 (map_in (pair b es k) (partners es k) r.0 r.1);
   }
+    where
+      below : (j : ℕ) → Has (partners es k) j → j < length es
+      below j h = let p = is_partner_of es k e at j h in get_below es j p.0 p.2
 
   -- a task adds the number of its partners
   pub more_pairs : (n : ℕ) → HasPairs g (take k (derivations es)) n → HasPairs g (take (k + 1) (derivations es)) (n + length (partners es k))
@@ -72,3 +52,7 @@ module _ (g : Rules) (words : ℕ) (es : List Edge) (all : AreEdges words es) (f
         subst (λ l. ArePairs g l (h.0 ++ qs)) (sym (take_more D k (Begin 0 0 0) here)) pairs,
         omega (arith, length-append h.0 qs, length-map (partners es k) (pair b es k), h.2),
       )
+
+  -- the pairs of edge k were decided
+  pub task_gave : (v : Shown) (limit : ℕ) (b : Bool) → is_passive e ≡ b → (ds : List Draft) → AreMade g v words es limit b k (partners es k) ds → (old new : ℕ) → new ≡ old + length (partners es k) → TaskGave g v words es limit k ds old new
+  task_gave v limit b q ds m old new is = record { yields = task_done g words es all fit k e at v limit b q ds m; drafts = m.drafts; pairs = more_pairs; counted = is }

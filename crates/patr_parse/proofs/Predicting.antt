@@ -34,9 +34,15 @@ use Rattle.patr_parse.specs.Tasks.{judge, made_by}
 use Rattle.patr_parse.specs.Standing.{Stands}
 use Rattle.patr_parse.specs.Begun.{begun_at, begun_unless, begun_by, next_of, is_marked, HasMark, HasMarkOf, IsAloneEdge}
 use Rattle.patr_parse.specs.Predicting.{ArePredicted, IsMarked}
+use Rattle.patr_parse.proofs.Members.{place_of}
 use Rattle.patr_parse.proofs.Numbers.{at_in}
 use Rattle.patr_parse.proofs.Added.{AreNew, none_new, derivations_new}
 use Rattle.patr_parse.proofs.Items.{rule_item, begun_least, begun_solvable, IsBegun, in_begun, begun_in, once_begun, no_pair_begun}
+
+past : (cs : List ℕ) (n : ℕ) → length cs ≤ n → slice_get cs n ≡ None
+past [] n h = refl
+past (c ∷ cs) zero h = absurd (omega (arith, h))
+past (c ∷ cs) (suc n) h = past cs n (omega (arith, h))
 
 -- ---- what a library states
 
@@ -60,17 +66,7 @@ module _ (s : Stored) where
   pub none_next : (t : Derivation) → IsComplete (rules_of s) t → next_of (rules_of s) t ≡ None
   none_next (Leaf e k i j) full = refl
   none_next (Begin r k i) full = ap (option_and_then (λ (w : RuleVariant). slice_get w.categories 1)) full.1 ∙ past full.0.categories 1 (let q = full.2 in omega (arith, q))
-    where
-      past : (cs : List ℕ) (n : ℕ) → length cs ≤ n → slice_get cs n ≡ None
-      past [] n h = refl
-      past (c ∷ cs) zero h = absurd (omega (arith, h))
-      past (c ∷ cs) (suc n) h = past cs n (omega (arith, h))
   none_next (Extend a p) full = ap (option_and_then (λ (w : RuleVariant). slice_get w.categories (suc (suc (derivation.seen a))))) full.1 ∙ past full.0.categories (suc (suc (derivation.seen a))) (let q = full.2 in omega (arith, q))
-    where
-      past : (cs : List ℕ) (n : ℕ) → length cs ≤ n → slice_get cs n ≡ None
-      past [] n h = refl
-      past (c ∷ cs) zero h = absurd (omega (arith, h))
-      past (c ∷ cs) (suc n) h = past cs n (omega (arith, h))
 
   -- a tree that has a next slot is partial
   partial_of : (t : Derivation) (c : ℕ) → next_of (rules_of s) t ≡ Some c → IsPartial (rules_of s) t
@@ -172,11 +168,6 @@ predicted_next s ws M seen es here next p = record {
         go true q = inl (ltb-true k seen q)
         go false q = inr (omega (arith, b, ltb-false k seen q))
 
-numbered : (ts : List Derivation) (t : Derivation) → IsIn ts t → (n : ℕ) × (n < length ts) × (get_or ts n (Begin 0 0 0) ≡ t)
-numbered [] t h = absurd h
-numbered (u ∷ ts) t (inl q) = (zero, omega arith, q)
-numbered (u ∷ ts) t (inr h) = let r = numbered ts t h in (let n = r.1 in (suc r.0, omega (arith, n), r.2))
-
 -- the word of an entry variant is that of the lexicon's entry
 word_at_is : (s : Stored) (item : EntryItem) (entry : EntryVariant) → entry_variant (rules_of s) item.entry item.variant ≡ Some entry → word_at s.lexicon item.entry ≡ Some entry.word
 word_at_is s item entry h = go s.lexicon item.entry h
@@ -216,7 +207,7 @@ module _ (s : Stored) (stored : IsStored s) (ws : List ℕ) (v : Shown) (es : Li
   follow a r k i here part ends sol may =
       let variant = sol.2.solves in
       let same = plainly g keys.cat (has_categories s) refl ws a r k i part (variant.0, variant.1) may in
-      let t = numbered (derivations es) a here in
+      let t = place_of (derivations es) (Begin 0 0 0) a here in
       let place : t.0 < length es = (let b = t.1 in omega (arith, b, from_length [] es)) in
       let marked : M same.0 (end a) = subst (λ x. M same.0 (end x)) t.2 (p.followed t.0 same.0 place (subst (λ x. next_of g x ≡ Some same.0) (sym t.2) same.1)) in
       let mother : slice_get variant.0.categories 0 ≡ Some same.0 = ap (option_and_then (λ (x : RuleVariant). slice_get x.categories 0)) (sym variant.1) ∙ same.2 in

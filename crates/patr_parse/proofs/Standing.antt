@@ -14,8 +14,8 @@ use Rattle.patr_chart.specs.declared.edge.Edge.{Edge}
 use Rattle.patr_chart.specs.Charted.{HasOrigin, IsEdgeAfter, alone, derivation_at, derived_by, derived, derivations_from, derivations, tree}
 use Rattle.patr_chart.specs.Laws.{KindsFit}
 use Rattle.patr_chart.proofs.Trees.{get_below, from_append}
-use Rattle.patr_parse.specs.Tasks.{made_by, AreSmall, HasLarge, IsTask}
-use Rattle.patr_parse.specs.Standing.{Stands, MayBePushed, RoundGave, IsMadeOfTwo, IsRound}
+use Rattle.patr_parse.specs.Tasks.{by_edges, made_by, AreSmall, HasLarge}
+use Rattle.patr_parse.specs.Standing.{Stands, MayBePushed, IsMadeOfTwo, IsRound}
 use Rattle.patr_parse.proofs.Numbers.{at_in, in_taken, one_number}
 use Rattle.patr_parse.proofs.Tasks.{trees_length}
 use Rattle.patr_parse.proofs.Growing.{get_parts}
@@ -53,30 +53,6 @@ derivations_made words es ys all =
 made_length : (es ys : List Edge) → length (made_by es ys) ≡ length ys
 made_length es ys = length-map ys (derived (derivations es))
 
-member_made : (es ys : List Edge) (n : ℕ) (e : Edge) → slice_get ys n ≡ Some e → IsIn (made_by es ys) (derived (derivations es) e)
-member_made es [] n e h = cc
-member_made es (y ∷ ys) zero e h = inl (ap (λ x. derived (derivations es) x) (some_inj y e h))
-member_made es (y ∷ ys) (suc n) e h = inr (member_made es ys n e h)
-
--- an edge that stands for a longer derivation was made of two
-longer_made : (es : List Edge) (e : Edge) (a p : Derivation) → derived (derivations es) e ≡ Extend a p → (b : Back) × (e.back ≡ Some b)
-longer_made es e a p q = go e.back refl q
-  where
-    not_alone : (k : EdgeKind) → alone k e ≡ Extend a p → ⊥
-    not_alone (Entry f v) r = cc
-    not_alone (Rule r v i s n) w = cc
-
-    go : (o : Option Back) → e.back ≡ o → derived_by (derivations es) e o ≡ Extend a p → (b : Back) × (e.back ≡ Some b)
-    go None w r = absurd (not_alone e.kind r)
-    go (Some b) w r = (b, w)
-
-pub task_pushed : (Q : Derivation → Type 0) (g : Rules) (words : ℕ) (es : List Edge) (k : ℕ) (ys zs : List Edge) → IsTask Q g words es k zs → MayBePushed words es ys → MayBePushed words es (ys ++ zs)
-task_pushed Q g words es k ys zs t old n e h = elim (get_parts ys zs n e h) [
-  | inl at ↦ old n e at
-  | inr at ↦ (let q = (t.yields.pairs (derived (derivations es) e) (member_made es zs at.0 e at.2)).0 in
-      let m = longer_made es e q.0 q.1 q.2 in (t.ground at.0 e at.2, m.0, m.1))
-]
-
 -- what was made stands behind what was there
 made_of_two : (words : ℕ) (es ys : List Edge) → MayBePushed words es ys → (t : Derivation) → IsIn (made_by es ys) t → IsMadeOfTwo t
 made_of_two words es [] m t h = absurd h
@@ -88,12 +64,12 @@ made_of_two words es (y ∷ ys) m t (inr h) = made_of_two words es ys (λ n e k.
 small_append : (limit : ℕ) (ts us : List Derivation) → AreSmall limit ts → AreSmall limit us → AreSmall limit (ts ++ us)
 small_append limit ts us a b t h = elim (in_either ts us t h) [ inl k ↦ a t k | inr k ↦ b t k ]
 
-pub round_done : (limit words : ℕ) (es ys : List Edge) → AreSmall limit (derivations es) → RoundGave limit words es ys → IsRound limit es (es ++ ys)
-round_done limit words es ys small r =
-    let is = derivations_made words es ys (λ n e h. (r.ground n e h).0) in record {
-      grown = (ys, refl, is, made_of_two words es ys r.ground);
-      small = subst (λ l. AreSmall limit l) (sym is) (small_append limit (derivations es) (made_by es ys) small r.small);
-      few = (let few = r.few in omega (arith, few, length-append es ys));
+pub round_done : (limit words : ℕ) (es ys : List Edge) → AreSmall limit (derivations es) → MayBePushed words es ys → AreSmall limit (made_by es ys) → length es + length ys ≤ limit → IsRound limit es (es ++ ys)
+round_done limit words es ys small ground made few =
+    let is = derivations_made words es ys (λ n e h. (ground n e h).0) in record {
+      grown = (ys, refl, is, made_of_two words es ys ground);
+      small = subst (λ l. AreSmall limit l) (sym is) (small_append limit (derivations es) (made_by es ys) small made);
+      few = omega (arith, few, length-append es ys);
     }
 
 pub chart_edge : (j : Judgement) (g : Rules) (ws : List ℕ) (t : Derivation) → InChart j g ws t → j.IsEdge t
@@ -114,9 +90,9 @@ fit_pushed g words es ys fit m k e h none = elim (get_parts es ys k e h) [
 
 module _ (j : Judgement) (g : Rules) (ws : List ℕ) where
   -- one task
-  pub stands_task : (words : ℕ) (es : List Edge) (k : ℕ) (ys zs : List Edge) → Stands j g ws es k ys → k < length es → IsTask j.IsEdge g words es k zs
+  pub stands_task : (es : List Edge) (k : ℕ) (ys zs : List Edge) → Stands j g ws es k ys → k < length es → IsYield (by_edges j.IsEdge) g (take k (derivations es)) (tree es k) (made_by es zs)
       → Stands j g ws es (k + 1) (ys ++ zs)
-  stands_task words es k ys zs s h t =
+  stands_task es k ys zs s h t =
       let D = derivations es in
       let long = trees_length es in
       let here : k < length D = omega (arith, h, long) in
@@ -124,7 +100,7 @@ module _ (j : Judgement) (g : Rules) (ws : List ℕ) where
       let fresh : IsIn (take k D) x → ⊥ = λ i.
       let at = in_taken k D (Begin 0 0 0) x i in
       let same = one_number D (Begin 0 0 0) (once_left D (made_by es ys) s.worked.once) at.at k at.within here at.is in let before = at.before in omega (arith, same, before) in
-      let yields : IsYield j g (take k D) x (made_by es zs) = record { once = t.yields.once; pairs = t.yields.pairs; every = t.yields.every } in
+      let yields : IsYield j g (take k D) x (made_by es zs) = record { once = t.once; pairs = t.pairs; every = t.every } in
       let w = (rounds j g ws).works (take k D) (D ++ made_by es ys) x (made_by es zs) s.worked (in_left D (made_by es ys) x (at_in D (Begin 0 0 0) k here)) fresh yields in
       record {
         worked = subst (λ l. IsWorked j g ws l (D ++ made_by es (ys ++ zs))) (sym (take_more D k (Begin 0 0 0) here))

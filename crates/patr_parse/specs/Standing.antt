@@ -23,12 +23,6 @@ ArePushable words es ys = (n : ℕ) (e : Edge) → slice_get ys n ≡ Some e →
 abbrev pub MayBePushed : ℕ → List Edge → List Edge → Type 0
 MayBePushed words es ys = (n : ℕ) (e : Edge) → slice_get ys n ≡ Some e → IsEdgeAfter words es e × (b : Back) × (e.back ≡ Some b)
 
--- what a round made under a limit
-pub record RoundGave (limit words : ℕ) (es ys : List Edge) : Type 0 where
-  pub ground : MayBePushed words es ys
-  pub small : AreSmall limit (made_by es ys)
-  pub few : length es + length ys ≤ limit
-
 -- an active edge, and a passive one as its last daughter
 abbrev pub IsMadeOfTwo : Derivation → Type 0
 IsMadeOfTwo t = (a : Derivation) × (p : Derivation) × (t ≡ Extend a p)

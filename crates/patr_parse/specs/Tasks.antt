@@ -64,26 +64,6 @@ pub record IsReady (g : Rules) (s : Stored) (v : Shown) (limit : ℕ) (es : List
 abbrev pub AreWaiting : Rules → Stored → Shown → List Edge → List Edge → Type 0
 AreWaiting g s v es ys = (n : ℕ) (e : Edge) → slice_get ys n ≡ Some e → IsSoundEdge g s v es (derived (derivations es) e) e
 
--- one more pair was decided
-abbrev pub IsDecided : (Derivation → Type 0) → ℕ → List Edge → Derivation → List Edge → List Edge → Type 0
-IsDecided Q words es t old new = ((new ≡ old) × (Q t → ⊥)) ⊎ ((e : Edge) × (new ≡ old ++ e ∷ []) × IsEdgeAfter words es e × (derived (derivations es) e ≡ t) × Q t)
-
--- the edges made of edge k with these others
-pub record AreMade (Q : Derivation → Type 0) (words : ℕ) (es : List Edge) (b : Bool) (k : ℕ) (js : List ℕ) (ys : List Edge) : Type 0 where
-  pub once : EachOnce (made_by es ys)
-  pub ground : (n : ℕ) (e : Edge) → slice_get ys n ≡ Some e → IsEdgeAfter words es e
-  pub pairs : (t : Derivation) → IsIn (made_by es ys) t → (j : ℕ) × Has js j × (t ≡ pair b es k j) × Q t
-  pub every : (j : ℕ) → Has js j → Q (pair b es k j) → IsIn (made_by es ys) (pair b es k j)
-
 -- these derivations are edges, and no rule is predicted
 abbrev pub by_edges : (Derivation → Type 0) → Judgement
 by_edges Q = record { IsEdge = Q; MayFollow = λ a b. ⊥; IsWhole = λ t. ⊥ }
-
--- the edges that task k gives
-pub record IsTask (Q : Derivation → Type 0) (g : Rules) (words : ℕ) (es : List Edge) (k : ℕ) (ys : List Edge) : Type 0 where
-  pub ground : (n : ℕ) (e : Edge) → slice_get ys n ≡ Some e → IsEdgeAfter words es e
-  pub yields : IsYield (by_edges Q) g (take k (derivations es)) (tree es k) (made_by es ys)
-
--- they were put behind what was there
-abbrev pub TaskGave : (Derivation → Type 0) → Rules → ℕ → List Edge → ℕ → List Edge → List Edge → Type 0
-TaskGave Q g words es k old new = (ys : List Edge) × (new ≡ old ++ ys) × IsTask Q g words es k ys

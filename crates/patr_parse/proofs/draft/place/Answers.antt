@@ -5,7 +5,7 @@ use Rattle.patr_unify.specs.Copying.{made_of}
 use Rattle.patr_chart.specs.Edges.{kind_passive}
 use Rattle.patr_parse.specs.Joining.{HasMother, IsRootBy}
 use Rattle.patr_parse.proofs.Placed.{value_placed}
-use Rattle.patr_parse.proofs.join.place.Goals as goal
+use Rattle.patr_parse.proofs.draft.place.Goals as goal
 
 pub root_for-requires-clause-mother : goal.root_for-requires-clause-mother
 root_for-requires-clause-mother c = λ passive.
