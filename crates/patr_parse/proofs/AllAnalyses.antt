@@ -25,7 +25,8 @@ use Rattle.patr_parse.proofs.Members.{all_of, weaker}
 use Rattle.patr_parse.proofs.Numbers.{one_number}
 use Rattle.patr_parse.proofs.Picked.{tally, times, places_once}
 use Rattle.patr_parse.proofs.Ordered.{analysis_cmp, adjacent, rises}
-use Rattle.patr_parse.proofs.WholeEdges.{trees_length, edge_of_tree, have_least, edge_is_analysis, analysis_passes}
+use Rattle.patr_parse.proofs.Tasks.{trees_length}
+use Rattle.patr_parse.proofs.WholeEdges.{edge_of_tree, have_least, edge_is_analysis, analysis_passes}
 
 -- what holds of each, by the edges' numbers
 by_edge : (P : ℕ → Type 0) (cs : List Analysis) → AllByRecursion P (map edge_of cs) → AllByRecursion (λ a. P (edge_of a)) cs

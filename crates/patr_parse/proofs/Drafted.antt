@@ -33,7 +33,7 @@ use Rattle.patr_parse.specs.Standing.{IsRound, MayBePushed, Stands}
 use Rattle.patr_parse.specs.Tasks.{AreSmall, AreWaiting, HasLarge, IsReady, judge, made_by}
 use Rattle.patr_parse.proofs.Growing.{extends_on, extends_same, get_still, ready_still, sound_pushed, sound_still}
 use Rattle.patr_parse.proofs.Pushing.{sound_draft}
-use Rattle.patr_parse.proofs.Members.{all_append}
+use Rattle.patr_parse.proofs.Members.{all_append, among}
 use Rattle.patr_parse.proofs.Paired.{partners_few}
 use Rattle.patr_parse.proofs.Placed.{block_behind, block_moved, home, place, ref_moved}
 use Rattle.patr_parse.proofs.Moved.{arc_moved, moved}
@@ -41,7 +41,7 @@ use Rattle.patr_parse.proofs.Standing.{derivations_made, passes_large, passes_ma
 use Rattle.patr_parse.proofs.Tasks.{trees_length}
 
 -- an edge with more edges before it
-pub after_more : (words : ℕ) (es ys : List Edge) (e : Edge) → IsEdgeAfter words es e → IsEdgeAfter words (es ++ ys) e
+after_more : (words : ℕ) (es ys : List Edge) (e : Edge) → IsEdgeAfter words es e → IsEdgeAfter words (es ++ ys) e
 after_more words es ys e h = record { order = h.order; within = h.within; origin = go e.back h.origin }
   where
     go : (o : Option Back) → HasOrigin es e o → HasOrigin (es ++ ys) e o
@@ -214,20 +214,26 @@ all_old_still : (v w : Shown) → Extends v w → (fs : List Feature) → AllOld
 all_old_still v w e [] h = tt
 all_old_still v w e (f ∷ fs) h = (old_ref_still v w e f.to h.0, all_old_still v w e fs h.1)
 
-module _ (v w : Shown) (sv : IsShown v) (sw : IsShown w) (e : Extends v w) (words limit : ℕ) (es : List Edge) (d : Draft) (h : IsDraft v words es limit d) where
-  pub old_on : OldIsHeld w d.block
-  old_on n = all_old_still v w e (slice_index_or d.block n []) (h.made.old n)
+-- what the next draft needs of the nodes and the edges that were put behind those by which it was made
+pub record IsNextDraft (w : Shown) (words : ℕ) (es : List Edge) (d : Draft) : Type 0 where
+  pub old : OldIsHeld w d.block
+  pub fits : Fits w (length d.block) d.root
+  pub mother : kind_passive d.edge.kind ≡ true → HasMother (with_block w d.block).structure (made_of w d.root)
+  pub after : (ys : List Edge) → IsEdgeAfter words (es ++ ys) d.edge
 
-  pub fits_on : Fits w (length d.block) d.root
-  fits_on = (h.made.fits.0, old_ref_still v w e d.root h.made.fits.1)
-
-  pub mother_on : kind_passive d.edge.kind ≡ true → HasMother (with_block w d.block).structure (made_of w d.root)
-  mother_on q =
-      let m = h.mother q in
-      let f = place v w sv sw e d.block h.made.old in
-      let is = block_moved v w sv sw e d.block h.made.old in
-      (moved f m.0, ap (λ x. arc (with_block w d.block).structure x 0) (ref_moved v w sv sw e d.block h.made.old d.root h.made.fits.1)
-      ∙ (arc_moved (length v.structure) (with_block v d.block).structure (with_block w d.block).structure f (home v w sv sw e d.block h.made.old) is (made_of v d.root) h.made.unifier.takes.held 0 ∙ ap (option_map (moved f)) m.1))
+pub next_draft : (v w : Shown) → IsShown v → IsShown w → Extends v w → (words limit : ℕ) (es : List Edge) (all : List Draft) → AreDrafts v words es limit all → (xs ys : List Draft) (d : Draft) → xs ++ d ∷ ys ≡ all → IsNextDraft w words es d
+next_draft v w sv sw e words limit es all drafts xs ys d whole =
+    let h = among (IsDraft v words es limit) xs ys d all whole drafts in
+    let f = place v w sv sw e d.block h.made.old in
+    record {
+      old = λ n. all_old_still v w e (slice_index_or d.block n []) (h.made.old n);
+      fits = (h.made.fits.0, old_ref_still v w e d.root h.made.fits.1);
+      mother = λ q.
+          let m = h.mother q in
+          (moved f m.0, ap (λ x. arc (with_block w d.block).structure x 0) (ref_moved v w sv sw e d.block h.made.old d.root h.made.fits.1)
+          ∙ (arc_moved (length v.structure) (with_block v d.block).structure (with_block w d.block).structure f (home v w sv sw e d.block h.made.old) (block_moved v w sv sw e d.block h.made.old) (made_of v d.root) h.made.unifier.takes.held 0 ∙ ap (option_map (moved f)) m.1));
+      after = λ ys. after_more words es ys d.edge h.after;
+    }
 
 pub placed_more : (v w u : Shown) → IsShown w → IsShown u → (ds : List Draft) (old mid new : List Edge) (d : Draft) → ArePlaced v w ds old mid → IsPlaced w u d mid new → ArePlaced v u (ds ++ d ∷ []) old new
 placed_more v w u sw su ds old mid new d placed p =

@@ -28,13 +28,11 @@ use Rattle.patr_parse.proofs.Reached.{counts_there}
 use Rattle.patr_parse.proofs.Growing.{value_still, least_still, bounds_still}
 use Rattle.patr_parse.proofs.Joins.{root_of_edge, slot_reached}
 use Rattle.patr_parse.proofs.Items.{rule_item, entry_item}
+use Rattle.patr_parse.proofs.Ready.{items_there}
 
 module _ (s : Stored) (stored : IsStored s) (v : Shown) (base : IsShown s.shown) (sv : IsShown v) (e : Extends s.shown v) where
   abbrev g : Rules
   g = rules_of s
-
-  pub items_held : ItemsAreHeld s v
-  items_held n item at = still_held s.shown v e item.root.block item.root.offset (rule_item s stored n item at).held
 
   -- ---- rules
 
@@ -61,7 +59,7 @@ module _ (s : Stored) (stored : IsStored s) (v : Shown) (base : IsShown s.shown)
     old_value = held_below s.shown base item.root.block item.root.offset is.held
 
     new_value : IsValue v.structure new
-    new_value = held_below v sv item.root.block item.root.offset (items_held n item at_n)
+    new_value = held_below v sv item.root.block item.root.offset (items_there s stored v e n item at_n)
 
     longer : (m : Value) → IsLeastValue g tree s.shown.structure m → IsLeastValue g tree v.structure m
     longer m l = subst (λ S. IsLeastValue g tree S m) (sym e.structure.1) (longer_keeps.least g tree s.shown.structure e.structure.0 m (subst IsStructure e.structure.1 sv.structure) l)

@@ -72,12 +72,6 @@ round_done limit words es ys small ground made few =
       few = omega (arith, few, length-append es ys);
     }
 
-pub chart_edge : (j : Judgement) (g : Rules) (ws : List ℕ) (t : Derivation) → InChart j g ws t → j.IsEdge t
-chart_edge j g ws t (InChart.word e k i i' entry q v n edge) = edge
-chart_edge j g ws t (InChart.first r k rule q s edge) = edge
-chart_edge j g ws t (InChart.predicted a r k i h part q edge may) = edge
-chart_edge j g ws t (InChart.extended a p h part hp full q edge) = edge
-
 -- edges that are made of two fit
 fit_pushed : (g : Rules) (words : ℕ) (es ys : List Edge) → KindsFit g es → MayBePushed words es ys → KindsFit g (es ++ ys)
 fit_pushed g words es ys fit m k e h none = elim (get_parts es ys k e h) [

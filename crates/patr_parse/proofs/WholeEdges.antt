@@ -24,10 +24,8 @@ use Rattle.patr_library.specs.declared.item.RuleItem.{RuleItem}
 use Rattle.patr_library.specs.Stored.{Stored, HasItems, IsRuleItem, keys, root_of}
 use Rattle.patr_parse.specs.Found.{AreSound, IsOfItem}
 use Rattle.patr_parse.specs.Analyses.{is_atom, has_category, is_whole}
+use Rattle.patr_parse.proofs.Tasks.{trees_length}
 use Rattle.patr_parse.proofs.Members.{all_get, all_there, element_at, place_of}
-
-pub trees_length : (es : List Edge) → length (derivations es) ≡ length es
-trees_length es = omega (arith, from_length [] es)
 
 both : (b c : Bool) → b && c ≡ true → (b ≡ true) × (c ≡ true)
 both true c h = (refl, h)

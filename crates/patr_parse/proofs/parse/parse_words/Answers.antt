@@ -1,6 +1,4 @@
 use Rattle.std.proofs.Common.{◌≡◌, ℕ, true, false, rules, List, map, Bor, length, refl, sym, ap, ◌∙◌, subst, arith}
-use Rattle.std.proofs.lemmas.List.{length-map}
-use Rattle.patr_text.specs.declared.symbols.Id.{Id}
 use Rattle.patr_arena.specs.Blocks.{Extends}
 use Rattle.patr_arena.specs.Paths.{ids}
 use Rattle.patr_arena.specs.Sentences.{sentence_of}
@@ -12,7 +10,7 @@ use Rattle.patr_parse.specs.Closing.{IsClosed}
 use Rattle.patr_parse.specs.Found.{AreSound}
 use Rattle.patr_parse.specs.Tasks.{judge}
 use Rattle.patr_parse.proofs.Growing.{extends_same}
-use Rattle.patr_parse.proofs.Sound.{same_length}
+use Rattle.patr_parse.proofs.Sound.{numbers_short}
 use Rattle.patr_parse.proofs.parse.parse_words.Goals as goal
 
 pub close-closed-requires-clause-base : goal.close-closed-requires-clause-base
@@ -23,17 +21,11 @@ close-closed-requires-clause-base g c =
 
 pub close-closed-requires-clause-words : goal.close-closed-requires-clause-words
 close-closed-requires-clause-words g c =
-    let known = c.in-Ok.ensures.numbers in
-    let short = known.short in
-    let same = same_length _ (map (λ (w : Bor (List ℕ)). w.now) c.args.words.now) (ids c.in-Ok.numbers.items) known.are in
-    omega (arith, short, same, length-map c.in-Ok.numbers.items (λ (a : Id). a.0), ap length c.deref.ensures.value)
+    let known = c.in-Ok.ensures.numbers in omega (arith, numbers_short _ _ c.in-Ok.numbers.items known.short known.are, ap length c.deref.ensures.value)
 
 pub overflow_cast-len : goal.overflow_cast-len
 overflow_cast-len g c =
-    let known = c.in-Ok.ensures.numbers in
-    let short = known.short in
-    let same = same_length _ (map (λ (w : Bor (List ℕ)). w.now) c.args.words.now) (ids c.in-Ok.numbers.items) known.are in
-    omega (arith, short, same, length-map c.in-Ok.numbers.items (λ (a : Id). a.0), c.len.ensures)
+    let known = c.in-Ok.ensures.numbers in omega (arith, numbers_short _ _ c.in-Ok.numbers.items known.short known.are, c.len.ensures)
 
 pub returns-then-not-branch-clause-refused : goal.returns-then-not-branch-clause-refused
 returns-then-not-branch-clause-refused g c =
@@ -61,10 +53,7 @@ returns-clause-parsed g c =
 
 pub analyses_of-requires-clause-short : goal.analyses_of-requires-clause-short
 analyses_of-requires-clause-short g c =
-    let known = c.in-Ok.ensures.numbers in
-    let short = known.short in
-    let same = same_length _ (map (λ (w : Bor (List ℕ)). w.now) c.args.words.now) (ids c.in-Ok.numbers.items) known.are in
-    omega (arith, short, same, length-map c.in-Ok.numbers.items (λ (a : Id). a.0), ap length c.deref-2.ensures.value)
+    let known = c.in-Ok.ensures.numbers in omega (arith, numbers_short _ _ c.in-Ok.numbers.items known.short known.are, ap length c.deref-2.ensures.value)
 
 pub analyses_of-requires-clause-edges : goal.analyses_of-requires-clause-edges
 analyses_of-requires-clause-edges g c =

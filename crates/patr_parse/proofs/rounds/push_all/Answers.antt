@@ -2,10 +2,10 @@ use Rattle.std.proofs.Common.{◌≡◌, ◌∙◌, ◌++◌, ◌∷◌, [], len
 use Rattle.std.specs.Vec.Iter.{into_iter_items, into_iter_len}
 use Rattle.patr_arena.specs.Sentences.{sentence_of}
 use Rattle.patr_chart.specs.Charted.{IsEdgeAfter}
-use Rattle.patr_parse.proofs.Members.{among, nothing_left}
-use Rattle.patr_parse.specs.Drafts.{ArePlaced, IsDraft}
+use Rattle.patr_parse.proofs.Members.{nothing_left}
+use Rattle.patr_parse.specs.Drafts.{ArePlaced}
 use Rattle.patr_parse.proofs.Growing.{extends_same}
-use Rattle.patr_parse.proofs.Drafted.{after_more, fits_on, mother_on, old_on, placed_more}
+use Rattle.patr_parse.proofs.Drafted.{next_draft, placed_more}
 use Rattle.patr_parse.proofs.rounds.push_all.Goals as goal
 
 pub loop-draft-init : goal.loop-draft-init
@@ -14,45 +14,18 @@ loop-draft-init c =
     record { whole = refl; long = long; placed = ([], sym (append-nil c.args.chart.now.edges), tt, extends_same (sentence_of c.args.arena.now)); words = refl }
 
 pub push_draft-requires-clause-old : goal.push_draft-requires-clause-old
-push_draft-requires-clause-old c =
-    let at = c.loop-draft in
-    let x = c.in-Some.draft in
-    let v = sentence_of c.args.arena.now in
-    let steps : into_iter_items at.draft-iterator ≡ x ∷ into_iter_items c.next.new.self = c.in-Some.ensures.steps.0 in
-    let whole = ap (λ l. at.yielded ++ l) (sym steps) ∙ (at.invariant.whole ∙ c.into_iter-draft-iterator.ensures.into_iter_gives.0) in
-    let h = among (IsDraft v c.args.chart.now.words c.args.chart.now.edges c.requires.0) at.yielded (into_iter_items c.next.new.self) x c.args.drafts.items whole c.requires.1 in
-    old_on v (sentence_of at.arena) c.args.arena.now.lawful at.arena.lawful at.invariant.placed.3 c.args.chart.now.words c.requires.0 c.args.chart.now.edges x h
+push_draft-requires-clause-old c = (next_draft (sentence_of c.args.arena.now) (sentence_of c.loop-draft.arena) c.args.arena.now.lawful c.loop-draft.arena.lawful c.loop-draft.invariant.placed.3 c.args.chart.now.words c.requires.0 c.args.chart.now.edges c.args.drafts.items c.requires.1 c.loop-draft.yielded (into_iter_items c.next.new.self) c.in-Some.draft (ap (λ l. c.loop-draft.yielded ++ l) (sym c.in-Some.ensures.steps.0) ∙ (c.loop-draft.invariant.whole ∙ c.into_iter-draft-iterator.ensures.into_iter_gives.0))).old
 
 pub push_draft-requires-clause-fits : goal.push_draft-requires-clause-fits
-push_draft-requires-clause-fits c =
-    let at = c.loop-draft in
-    let x = c.in-Some.draft in
-    let v = sentence_of c.args.arena.now in
-    let steps : into_iter_items at.draft-iterator ≡ x ∷ into_iter_items c.next.new.self = c.in-Some.ensures.steps.0 in
-    let whole = ap (λ l. at.yielded ++ l) (sym steps) ∙ (at.invariant.whole ∙ c.into_iter-draft-iterator.ensures.into_iter_gives.0) in
-    let h = among (IsDraft v c.args.chart.now.words c.args.chart.now.edges c.requires.0) at.yielded (into_iter_items c.next.new.self) x c.args.drafts.items whole c.requires.1 in
-    fits_on v (sentence_of at.arena) c.args.arena.now.lawful at.arena.lawful at.invariant.placed.3 c.args.chart.now.words c.requires.0 c.args.chart.now.edges x h
+push_draft-requires-clause-fits c = (next_draft (sentence_of c.args.arena.now) (sentence_of c.loop-draft.arena) c.args.arena.now.lawful c.loop-draft.arena.lawful c.loop-draft.invariant.placed.3 c.args.chart.now.words c.requires.0 c.args.chart.now.edges c.args.drafts.items c.requires.1 c.loop-draft.yielded (into_iter_items c.next.new.self) c.in-Some.draft (ap (λ l. c.loop-draft.yielded ++ l) (sym c.in-Some.ensures.steps.0) ∙ (c.loop-draft.invariant.whole ∙ c.into_iter-draft-iterator.ensures.into_iter_gives.0))).fits
 
 pub push_draft-requires-clause-mother : goal.push_draft-requires-clause-mother
-push_draft-requires-clause-mother c =
-    let at = c.loop-draft in
-    let x = c.in-Some.draft in
-    let v = sentence_of c.args.arena.now in
-    let steps : into_iter_items at.draft-iterator ≡ x ∷ into_iter_items c.next.new.self = c.in-Some.ensures.steps.0 in
-    let whole = ap (λ l. at.yielded ++ l) (sym steps) ∙ (at.invariant.whole ∙ c.into_iter-draft-iterator.ensures.into_iter_gives.0) in
-    let h = among (IsDraft v c.args.chart.now.words c.args.chart.now.edges c.requires.0) at.yielded (into_iter_items c.next.new.self) x c.args.drafts.items whole c.requires.1 in
-    mother_on v (sentence_of at.arena) c.args.arena.now.lawful at.arena.lawful at.invariant.placed.3 c.args.chart.now.words c.requires.0 c.args.chart.now.edges x h
+push_draft-requires-clause-mother c = (next_draft (sentence_of c.args.arena.now) (sentence_of c.loop-draft.arena) c.args.arena.now.lawful c.loop-draft.arena.lawful c.loop-draft.invariant.placed.3 c.args.chart.now.words c.requires.0 c.args.chart.now.edges c.args.drafts.items c.requires.1 c.loop-draft.yielded (into_iter_items c.next.new.self) c.in-Some.draft (ap (λ l. c.loop-draft.yielded ++ l) (sym c.in-Some.ensures.steps.0) ∙ (c.loop-draft.invariant.whole ∙ c.into_iter-draft-iterator.ensures.into_iter_gives.0))).mother
 
 pub push_draft-requires-clause-edge : goal.push_draft-requires-clause-edge
 push_draft-requires-clause-edge c =
-    let at = c.loop-draft in
-    let x = c.in-Some.draft in
-    let v = sentence_of c.args.arena.now in
-    let steps : into_iter_items at.draft-iterator ≡ x ∷ into_iter_items c.next.new.self = c.in-Some.ensures.steps.0 in
-    let whole = ap (λ l. at.yielded ++ l) (sym steps) ∙ (at.invariant.whole ∙ c.into_iter-draft-iterator.ensures.into_iter_gives.0) in
-    let h = among (IsDraft v c.args.chart.now.words c.args.chart.now.edges c.requires.0) at.yielded (into_iter_items c.next.new.self) x c.args.drafts.items whole c.requires.1 in
-    subst (λ n. IsEdgeAfter n at.chart.edges x.edge) (sym at.invariant.words) (subst (λ l. IsEdgeAfter c.args.chart.now.words l x.edge) (sym at.invariant.placed.1)
-    (after_more c.args.chart.now.words c.args.chart.now.edges at.invariant.placed.0 x.edge h.after))
+    subst (λ n. IsEdgeAfter n c.loop-draft.chart.edges c.in-Some.draft.edge) (sym c.loop-draft.invariant.words) (subst (λ l. IsEdgeAfter c.args.chart.now.words l c.in-Some.draft.edge) (sym c.loop-draft.invariant.placed.1)
+    ((next_draft (sentence_of c.args.arena.now) (sentence_of c.loop-draft.arena) c.args.arena.now.lawful c.loop-draft.arena.lawful c.loop-draft.invariant.placed.3 c.args.chart.now.words c.requires.0 c.args.chart.now.edges c.args.drafts.items c.requires.1 c.loop-draft.yielded (into_iter_items c.next.new.self) c.in-Some.draft (ap (λ l. c.loop-draft.yielded ++ l) (sym c.in-Some.ensures.steps.0) ∙ (c.loop-draft.invariant.whole ∙ c.into_iter-draft-iterator.ensures.into_iter_gives.0))).after c.loop-draft.invariant.placed.0))
 
 pub loop-draft-preserved : goal.loop-draft-preserved
 loop-draft-preserved c =
