@@ -2,24 +2,12 @@
 use Rattle.std.proofs.Common.{◌≡◌, inl, inr, ℕ, zero, suc, ◌+◌, ◌<◌, List, [], ◌∷◌, ◌++◌, length, take, map, Some, None, slice_get, refl, sym, ap, ◌∙◌, arith, subst, append-nil, append_assoc, length-append}
 use Rattle.std.specs.List.{AllByRecursion}
 use Rattle.std.proofs.lemmas.List.{length-map, take-append-le}
-use Rattle.patr_model.specs.Derivation.{Rules, Derivation}
-use Rattle.patr_model.specs.Chart.{Judgement, InChart, IsIn, EachOnce, HasMoreThan}
-use Rattle.patr_model.specs.Renaming.{Each}
-use Rattle.patr_model.specs.Rounds.{IsWorked, IsNoPair}
-use Rattle.patr_model.proofs.Maps.{some_inj}
-use Rattle.patr_model.proofs.Rounds.{in_either, in_one, rounds}
-use Rattle.patr_arena.specs.Shown.{Shown}
-use Rattle.patr_chart.specs.declared.edge.EdgeKind.{EdgeKind}
-use Rattle.patr_chart.specs.declared.edge.EdgeKind.TheVariants.{Entry, Rule}
-use Rattle.patr_chart.specs.declared.edge.Edge.{Edge}
-use Rattle.patr_chart.specs.Charted.{alone, derived_by, derived, derivations_from, derivations}
-use Rattle.patr_chart.specs.Laws.{KindsFit}
-use Rattle.patr_chart.proofs.Trees.{from_append, from_length}
-use Rattle.patr_library.specs.Stored.{Stored}
-use Rattle.patr_parse.specs.Found.{IsSoundEdge, AreSound}
-use Rattle.patr_parse.specs.Begun.{IsAloneEdge}
-use Rattle.patr_parse.specs.Standing.{Stands}
-use Rattle.patr_parse.specs.Tasks.{made_by, AreWaiting}
+use Rattle.patr_parse.proofs.Names.{Rules, Derivation, Judgement, InChart, EachOnce, HasMoreThan, Each, IsWorked, IsNoPair, some_inj, in_either, rounds, Shown, EdgeKind, Rule, Edge, derived_by, derived, derivations, KindsFit, from_length, Stored, IsSoundEdge, AreSound, IsAloneEdge, Stands, made_by, AreWaiting}
+use Rattle.patr_model.specs.Chart.{IsIn}
+use Rattle.patr_model.proofs.Rounds.{in_one}
+use Rattle.patr_chart.specs.declared.edge.EdgeKind.TheVariants.{Entry}
+use Rattle.patr_chart.specs.Charted.{alone, derivations_from}
+use Rattle.patr_chart.proofs.Trees.{from_append}
 use Rattle.patr_parse.proofs.Growing.{get_parts, sound_more, sound_pushed}
 
 abbrev pub alone_edge : Edge → Derivation

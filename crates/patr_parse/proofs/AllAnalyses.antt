@@ -5,22 +5,15 @@ use Rattle.std.specs.List.Sorted.{IsPermutation, IsSorted}
 use Rattle.std.proofs.lemmas.List.Elements.{All-from_recursion, recursion_from_All}
 use Rattle.std.proofs.lemmas.List.Sorted.{All-permutation, IsPermutation-sym, sum_by-IsPermutation}
 use Rattle.std.proofs.lemmas.List.Sums.{sum_by-cons}
-use Rattle.patr_model.specs.Derivation.{Rules, Derivation, Begin, key}
-use Rattle.patr_model.specs.Chart.{IsIn, IsChart, IsAnalysis}
+use Rattle.patr_parse.proofs.Names.{Rules, Derivation, Begin, IsChart, places, Shown, Edge, AreEdges, derivations, places_pass, passes_placed, get_below, Stored, keys, Analysis, AreSound, is_whole, HasKey, edge_of, AreAll}
+use Rattle.patr_model.specs.Derivation.{key}
+use Rattle.patr_model.specs.Chart.{IsIn, IsAnalysis}
 use Rattle.patr_model.specs.Laws.{StatesCategories}
-use Rattle.patr_model.specs.Numbered.{places}
 use Rattle.patr_model.specs.Solved.{solved}
 use Rattle.patr_model.proofs.Keys.{keys_tell}
 use Rattle.patr_model.proofs.Prediction.{prediction_drops_none}
-use Rattle.patr_arena.specs.Shown.{Shown}
-use Rattle.patr_chart.specs.declared.edge.Edge.{Edge}
-use Rattle.patr_chart.specs.Charted.{AreEdges, derivations, tree}
-use Rattle.patr_chart.proofs.Passing.{places_pass, passes_placed}
-use Rattle.patr_chart.proofs.Trees.{get_below}
-use Rattle.patr_library.specs.Stored.{Stored, HasItems, keys}
-use Rattle.patr_parse.specs.declared.analyses.Analysis.{Analysis}
-use Rattle.patr_parse.specs.Found.{AreSound}
-use Rattle.patr_parse.specs.Analyses.{is_whole, HasKey, edge_of, AreAll}
+use Rattle.patr_chart.specs.Charted.{tree}
+use Rattle.patr_library.specs.Stored.{HasItems}
 use Rattle.patr_parse.proofs.Members.{all_of, weaker}
 use Rattle.patr_parse.proofs.Numbers.{one_number}
 use Rattle.patr_parse.proofs.Picked.{tally, times, places_once}

@@ -1,15 +1,8 @@
 -- What the first edges come to, under a limit.
 use Rattle.std.proofs.Common.{◌≡◌, ℕ, true, false, ◌≤◌, List, [], ◌++◌, length, length-append, sym, ap, arith, subst}
-use Rattle.patr_model.specs.Chart.{HasMoreThan}
-use Rattle.patr_arena.specs.Shown.{Shown}
-use Rattle.patr_chart.specs.declared.edge.Edge.{Edge}
-use Rattle.patr_library.specs.Stored.{Stored, IsStored, rules_of}
+use Rattle.patr_parse.proofs.Names.{HasMoreThan, Shown, Edge, Stored, IsStored, rules_of, AreSound, judge, Stands, leaves_from, begun_at, HasMark, ArePushed, ArePredicted, IsMarked}
 use Rattle.patr_parse.specs.declared.prediction.Prediction.{Prediction}
-use Rattle.patr_parse.specs.Found.{AreSound}
-use Rattle.patr_parse.specs.Tasks.{judge}
-use Rattle.patr_parse.specs.Standing.{Stands}
-use Rattle.patr_parse.specs.Begun.{leaves_from, begun_at, HasMark, ArePushed}
-use Rattle.patr_parse.specs.Predicting.{ArePredicted, IsInitialized, IsMarked}
+use Rattle.patr_parse.specs.Predicting.{IsInitialized}
 use Rattle.patr_parse.proofs.Added.{sound_new}
 use Rattle.patr_parse.proofs.Pushed.{Behind, behind_append, behind_length}
 use Rattle.patr_parse.proofs.First.{first_trees, first_passed, stands_first, first_predicted}

@@ -1,10 +1,9 @@
 -- How much is reached from values.
 use Rattle.std.proofs.Common.{◌≡◌, inl, inr, ℕ, ◌+◌, ◌≤◌, List, [], ◌∷◌, ◌++◌, length, refl, sym, ap, ◌∙◌, arith, subst}
 use Rattle.std.proofs.lemmas.List.{get_or_append_left}
-use Rattle.patr_model.specs.Structure.{Value, Structure, IsReached, IsValue, IsStructure}
-use Rattle.patr_marks.specs.Machine.{IsIn, NoRepeats, own, total}
+use Rattle.patr_parse.proofs.Names.{Value, Structure, IsReached, IsValue, IsStructure, NoRepeats, own, total, Counts}
+use Rattle.patr_marks.specs.Machine.{IsIn}
 use Rattle.patr_marks.proofs.Bounds.{stack_room}
-use Rattle.patr_unify.specs.Deciding.{Counts}
 use Rattle.patr_parse.proofs.Longer.{reached_more, reached_less, reached_value}
 
 -- a list without one of its numbers

@@ -3,34 +3,17 @@ use Rattle.std.proofs.Common.{◌≡◌, inl, inr, ℕ, zero, suc, ◌+◌, ◌*
 use Rattle.std.specs.Option.{option_map}
 use Rattle.std.proofs.lemmas.List.{length-map, map-append}
 use Rattle.std.proofs.Math.Seq.{take-length}
-use Rattle.patr_model.specs.Derivation.{Rules, size}
-use Rattle.patr_model.specs.Chart.{Judgement, HasMoreThan, IsIn}
-use Rattle.patr_model.specs.Renaming.{Each}
-use Rattle.patr_model.specs.Rounds.{HasPairs, IsWorked}
-use Rattle.patr_model.specs.Solution.{IsSolvable}
-use Rattle.patr_model.proofs.Maps.{some_inj}
-use Rattle.patr_model.specs.Structure.{arc}
-use Rattle.patr_arena.specs.declared.value.Feature.{Feature}
-use Rattle.patr_arena.specs.declared.value.Ref.{Ref}
+use Rattle.patr_parse.proofs.Names.{Rules, size, Judgement, HasMoreThan, Each, HasPairs, IsWorked, IsSolvable, some_inj, arc, Feature, Ref, Extends, with_block, sentence_of, Shown, IsShown, ValueIsHeld, value_of, still_held, made_of, kind_passive, Back, Edge, HasOrigin, IsEdgeAfter, derivations, derived, derived_by, Stored, rules_of, Draft, ArePlaced, IsDraft, with_root, AreSound, IsSoundEdge, HasMother, IsRootBy, IsRoundAt, Stands, AreSmall, AreWaiting, IsReady, judge, made_by}
+use Rattle.patr_model.specs.Chart.{IsIn}
 use Rattle.patr_arena.specs.declared.value.Ref.TheVariants as ref
-use Rattle.patr_arena.specs.Blocks.{AllOldHeld, Extends, OldIsHeld, OldRefIsHeld, with_block}
-use Rattle.patr_arena.specs.Sentences.{sentence_of}
-use Rattle.patr_arena.specs.Shown.{Shown, IsShown, ValueIsHeld, value_of}
-use Rattle.patr_arena.proofs.Showing.{still_held}
-use Rattle.patr_unify.specs.Copying.{Fits, made_of}
-use Rattle.patr_chart.specs.Edges.{kind_passive}
-use Rattle.patr_chart.specs.declared.edge.Back.{Back}
-use Rattle.patr_chart.specs.declared.edge.Edge.{Edge}
-use Rattle.patr_chart.specs.Charted.{Charted, HasOrigin, IsEdgeAfter, derivations, derived, derived_by}
-use Rattle.patr_library.specs.Stored.{Stored, rules_of}
-use Rattle.patr_parse.specs.declared.draft.Draft.{Draft}
+use Rattle.patr_arena.specs.Blocks.{AllOldHeld, OldIsHeld, OldRefIsHeld}
+use Rattle.patr_unify.specs.Copying.{Fits}
+use Rattle.patr_chart.specs.Charted.{Charted}
 use Rattle.patr_parse.specs.declared.rounds.Closing.{Closing}
-use Rattle.patr_parse.specs.Drafts.{AreDrafts, ArePlaced, IsDraft, IsPlaced, StandsFor, TaskGave, edges_of, with_root}
-use Rattle.patr_parse.specs.Found.{AreSound, IsSoundEdge}
-use Rattle.patr_parse.specs.Joining.{HasMother, IsRootBy}
-use Rattle.patr_parse.specs.Rounds.{IsCompleted, IsRoundAt}
-use Rattle.patr_parse.specs.Standing.{IsRound, MayBePushed, Stands}
-use Rattle.patr_parse.specs.Tasks.{AreSmall, AreWaiting, HasLarge, IsReady, judge, made_by}
+use Rattle.patr_parse.specs.Drafts.{AreDrafts, IsPlaced, StandsFor, TaskGave, edges_of}
+use Rattle.patr_parse.specs.Rounds.{IsCompleted}
+use Rattle.patr_parse.specs.Standing.{IsRound, MayBePushed}
+use Rattle.patr_parse.specs.Tasks.{HasLarge}
 use Rattle.patr_parse.proofs.Growing.{extends_on, extends_same, get_still, ready_still, sound_pushed, sound_still}
 use Rattle.patr_parse.proofs.Pushing.{sound_draft}
 use Rattle.patr_parse.proofs.Members.{all_append, among}

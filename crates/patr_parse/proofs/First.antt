@@ -1,19 +1,8 @@
 -- The first edges: the entries of the words, and the rules of the start symbol.
 use Rattle.std.proofs.Common.{◌≡◌, ◌⊎◌, inl, inr, ℕ, suc, ◌+◌, ◌<◌, List, [], ◌++◌, length, Some, slice_get, refl, sym, ap, ◌∙◌, arith, subst, zero-add}
-use Rattle.patr_model.specs.Derivation.{Rules, Derivation, Leaf, Begin}
-use Rattle.patr_model.specs.Chart.{InChart, IsIn, HasMoreThan}
-use Rattle.patr_model.specs.Renaming.{Each}
-use Rattle.patr_model.specs.Rounds.{IsNoPair}
-use Rattle.patr_model.proofs.Rounds.{in_left, in_right, in_either, once_append, rounds}
-use Rattle.patr_arena.specs.Shown.{Shown}
-use Rattle.patr_chart.specs.declared.edge.Edge.{Edge}
-use Rattle.patr_chart.specs.Charted.{derivations}
-use Rattle.patr_library.specs.Stored.{Stored, IsStored, rules_of}
-use Rattle.patr_parse.specs.declared.prediction.Mark.{Mark}
-use Rattle.patr_parse.specs.Tasks.{judge}
-use Rattle.patr_parse.specs.Standing.{Stands}
-use Rattle.patr_parse.specs.Begun.{begun_at, leaves_from, HasMark, IsAloneEdge}
-use Rattle.patr_parse.specs.Predicting.{ArePredicted, IsMarked}
+use Rattle.patr_parse.proofs.Names.{Rules, Derivation, Leaf, Begin, InChart, HasMoreThan, Each, IsNoPair, in_either, rounds, Shown, Edge, derivations, Stored, IsStored, rules_of, Mark, judge, Stands, begun_at, leaves_from, HasMark, IsAloneEdge, ArePredicted, IsMarked}
+use Rattle.patr_model.specs.Chart.{IsIn}
+use Rattle.patr_model.proofs.Rounds.{in_left, in_right, once_append}
 use Rattle.patr_parse.proofs.Added.{AreNew, derivations_new, stands_new, passes_new}
 use Rattle.patr_parse.proofs.Items.{rule_item, entry_item, begun_solvable, leaf_solvable, IsBegun, in_begun, begun_in, once_begun, IsLeafOf, in_words, words_in, once_words}
 use Rattle.patr_parse.proofs.Predicting.{mark_there, mark_is, begun_mother, word_is}

@@ -1,14 +1,8 @@
 -- One more edge is looked at.
 use Rattle.std.proofs.Common.{◌≡◌, ℕ, zero, suc, ◌+◌, ◌<◌, Bool, true, false, cond, List, [], ◌∷◌, ◌++◌, length, map, take, Some, slice_get, refl, sym, ap, ◌∙◌, arith, append-nil}
 use Rattle.std.proofs.lemmas.List.{map-append, length-take-le}
-use Rattle.patr_model.specs.Numbered.{places}
-use Rattle.patr_model.proofs.Maps.{some_inj}
-use Rattle.patr_chart.specs.declared.edge.Edge.{Edge}
-use Rattle.patr_chart.specs.Charted.{AreEdges}
+use Rattle.patr_parse.proofs.Names.{places, some_inj, Edge, AreEdges, get_below, Analysis, edge_of}
 use Rattle.patr_model.proofs.Selected.{places_append}
-use Rattle.patr_chart.proofs.Trees.{get_below}
-use Rattle.patr_parse.specs.declared.analyses.Analysis.{Analysis}
-use Rattle.patr_parse.specs.Analyses.{edge_of}
 
 take_next : (es : List Edge) (n : ℕ) (e : Edge) → slice_get es n ≡ Some e → take (n + 1) es ≡ take n es ++ e ∷ []
 take_next [] n e h = cc

@@ -1,29 +1,13 @@
 -- What is promised of edges stays true where more nodes and more edges come.
 use Rattle.std.proofs.Common.{◌≡◌, ◌⊎◌, inl, inr, ℕ, zero, suc, ◌+◌, List, [], ◌∷◌, ◌++◌, length, map, get_or, Option, Some, None, slice_get, refl, sym, ap, ◌∙◌, arith, subst, append-nil, append_assoc}
 use Rattle.std.proofs.lemmas.List.{get_or_append_left, get_or-append-add}
-use Rattle.patr_model.specs.Structure.{Value, Node, Structure, arc, IsValue, IsStructure}
-use Rattle.patr_model.specs.Subsumption.{IsUnifier}
-use Rattle.patr_model.specs.Settled.{Images, Keeps}
-use Rattle.patr_model.specs.Derivation.{Rules, Derivation, Begin}
-use Rattle.patr_model.specs.Solution.{IsLeastValue}
-use Rattle.patr_model.proofs.Maps.{some_inj, arc_of_longer}
+use Rattle.patr_parse.proofs.Names.{Value, Node, Structure, arc, IsValue, IsStructure, IsUnifier, Images, Keeps, Rules, Derivation, Begin, IsLeastValue, some_inj, arc_of_longer, Shown, IsShown, ValueIsHeld, value_of, Extends, held_below, still_held, same_number_held, value_below, Counts, EdgeKind, Rule, Back, Edge, derived, derivations, get_below, from_length, Stored, Bounds, root_of, IsJoined, HasSource, IsSoundEdge, AreSound, made_by, ItemsAreHeld, IsReady, AreWaiting}
 use Rattle.patr_model.proofs.Longer.{longer_keeps}
 use Rattle.patr_arena.specs.declared.value.Value as its
 use Rattle.patr_arena.specs.declared.value.Value.TheVariants as value
-use Rattle.patr_arena.specs.Shown.{Shown, IsShown, ValueIsHeld, value_of}
-use Rattle.patr_arena.specs.Blocks.{Extends}
-use Rattle.patr_arena.proofs.Showing.{held_below, still_held, same_number_held}
-use Rattle.patr_arena.proofs.Addresses.{value_below}
-use Rattle.patr_unify.specs.Deciding.{Counts}
-use Rattle.patr_chart.specs.declared.edge.EdgeKind.{EdgeKind}
-use Rattle.patr_chart.specs.declared.edge.EdgeKind.TheVariants.{Entry, Rule}
-use Rattle.patr_chart.specs.declared.edge.Back.{Back}
-use Rattle.patr_chart.specs.declared.edge.Edge.{Edge}
-use Rattle.patr_chart.specs.Charted.{derived, derivations, tree}
-use Rattle.patr_chart.proofs.Trees.{get_below, from_length}
-use Rattle.patr_library.specs.Stored.{Stored, Bounds, root_of}
-use Rattle.patr_parse.specs.Found.{IsRootOf, IsItemRoot, IsJoined, HasSource, IsSoundEdge, AreSound}
-use Rattle.patr_parse.specs.Tasks.{made_by, ItemsAreHeld, IsReady, AreWaiting}
+use Rattle.patr_chart.specs.declared.edge.EdgeKind.TheVariants.{Entry}
+use Rattle.patr_chart.specs.Charted.{tree}
+use Rattle.patr_parse.specs.Found.{IsRootOf, IsItemRoot}
 use Rattle.patr_parse.proofs.Moved.{counts_longer, keeps_longer}
 
 -- ---- more nodes

@@ -1,28 +1,12 @@
 -- The edges of a library's items.
 use Rattle.std.proofs.Common.{◌≡◌, ℕ, suc, ◌+◌, ◌<◌, Bool, true, false, not, ltb, ltb-true, ltb-false, [], ◌++◌, length, Some, None, slice_get, refl, sym, ap, ◌∙◌, arith, subst}
-use Rattle.patr_model.specs.Structure.{Value, Node, arc, IsValue, IsStructure}
-use Rattle.patr_model.specs.Derivation.{Rules, Derivation, Begin, Leaf}
-use Rattle.patr_model.specs.Solution.{IsLeastValue}
-use Rattle.patr_model.proofs.Maps.{some_inj, arc_of_longer}
-use Rattle.patr_model.proofs.Variants.{variant_steps}
+use Rattle.patr_parse.proofs.Names.{Value, Node, arc, IsValue, IsStructure, Rules, Derivation, Begin, Leaf, IsLeastValue, some_inj, arc_of_longer, variant_steps, Shown, IsShown, ValueIsHeld, value_of, Extends, held_below, still_held, same_number_held, Counts, EdgeKind, Rule, Edge, kind_passive, RuleItem, EntryItem, Stored, IsStored, IsRuleItem, Bounds, rules_of, root_of, IsSoundEdge, HasMother, IsRootBy, ItemsAreHeld, IsAloneEdge}
 use Rattle.patr_model.proofs.Longer.{longer_keeps}
 use Rattle.patr_arena.specs.declared.value.Value as its
 use Rattle.patr_arena.specs.declared.value.Value.TheVariants as value
-use Rattle.patr_arena.specs.Shown.{Shown, IsShown, ValueIsHeld, value_of}
-use Rattle.patr_arena.specs.Blocks.{Extends}
-use Rattle.patr_arena.proofs.Showing.{held_below, still_held, same_number_held}
-use Rattle.patr_unify.specs.Deciding.{Counts}
-use Rattle.patr_chart.specs.declared.edge.EdgeKind.{EdgeKind}
-use Rattle.patr_chart.specs.declared.edge.EdgeKind.TheVariants.{Entry, Rule}
-use Rattle.patr_chart.specs.declared.edge.Edge.{Edge}
-use Rattle.patr_chart.specs.Edges.{kind_passive}
-use Rattle.patr_library.specs.declared.item.RuleItem.{RuleItem}
-use Rattle.patr_library.specs.declared.item.EntryItem.{EntryItem}
-use Rattle.patr_library.specs.Stored.{Stored, IsStored, IsRuleItem, IsEntryItem, Bounds, rules_of, root_of}
-use Rattle.patr_parse.specs.Found.{IsSoundEdge}
-use Rattle.patr_parse.specs.Joining.{HasMother, IsRootBy}
-use Rattle.patr_parse.specs.Tasks.{ItemsAreHeld}
-use Rattle.patr_parse.specs.Begun.{begun_of, begun, leaf_of, leaf, IsAloneEdge}
+use Rattle.patr_chart.specs.declared.edge.EdgeKind.TheVariants.{Entry}
+use Rattle.patr_library.specs.Stored.{IsEntryItem}
+use Rattle.patr_parse.specs.Begun.{begun_of, begun, leaf_of, leaf}
 use Rattle.patr_parse.proofs.Counted.{counts_below}
 use Rattle.patr_parse.proofs.Reached.{counts_there}
 use Rattle.patr_parse.proofs.Growing.{value_still, least_still, bounds_still}

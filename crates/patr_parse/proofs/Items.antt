@@ -1,21 +1,13 @@
 -- The items of a library, as derivations: each stands for one that has a solution.
 use Rattle.std.proofs.Common.{◌≡◌, ◌⊎◌, inl, inr, ℕ, zero, suc, ◌+◌, ◌<◌, ◌≤◌, Bool, true, false, nat_lt, ltb-true, ltb-false, List, [], ◌∷◌, length, map, Some, slice_get, refl, sym, ap, ◌∙◌, arith, subst, zero-add, eqb-true, eq-eqb}
-use Rattle.patr_model.specs.Structure.{Value, Structure}
-use Rattle.patr_model.specs.Derivation.{Rules, Derivation, Leaf, Begin, start}
-use Rattle.patr_model.specs.Solution.{IsSolvable, IsLeastValue}
-use Rattle.patr_model.specs.Chart.{IsIn, EachOnce}
-use Rattle.patr_model.specs.Rounds.{IsNoPair}
-use Rattle.patr_model.specs.Numbered.{places}
-use Rattle.patr_model.proofs.Maps.{some_inj}
+use Rattle.patr_parse.proofs.Names.{Value, Structure, Rules, Derivation, Leaf, Begin, IsSolvable, IsLeastValue, EachOnce, IsNoPair, places, some_inj, in_either, variant_steps, places_pass, passes_placed, RuleItem, EntryItem, Stored, IsStored, IsRuleItem, rules_of, root_of, is_of_word, Has, begun_at, leaves_at, leaves_from}
+use Rattle.patr_model.specs.Derivation.{start}
+use Rattle.patr_model.specs.Chart.{IsIn}
 use Rattle.patr_model.proofs.Members.{all_at}
-use Rattle.patr_model.proofs.Rounds.{in_left, in_right, in_either, once_append}
-use Rattle.patr_model.proofs.Variants.{variant_steps}
-use Rattle.patr_chart.proofs.Passing.{places_pass, passes_placed, places_rise}
-use Rattle.patr_library.specs.declared.item.RuleItem.{RuleItem}
-use Rattle.patr_library.specs.declared.item.EntryItem.{EntryItem}
-use Rattle.patr_library.specs.Stored.{Stored, Rises, IsStored, IsRuleItem, IsEntryItem, rules_of, root_of, is_of_mother, is_of_word}
-use Rattle.patr_parse.specs.Tasks.{Has}
-use Rattle.patr_parse.specs.Begun.{begun_of, begun, leaf_of, leaf, begun_at, leaves_at, leaves_from}
+use Rattle.patr_model.proofs.Rounds.{in_left, in_right, once_append}
+use Rattle.patr_chart.proofs.Passing.{places_rise}
+use Rattle.patr_library.specs.Stored.{Rises, IsEntryItem, is_of_mother}
+use Rattle.patr_parse.specs.Begun.{begun_of, begun, leaf_of, leaf}
 use Rattle.patr_parse.proofs.Numbers.{Rising, rising_of, has_contains, contains_has, in_map, map_in, once_map}
 
 -- ---- the members of a list that pass a test

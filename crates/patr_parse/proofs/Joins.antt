@@ -1,35 +1,23 @@
 -- The edge that two edges make.
 use Rattle.std.proofs.Common.{◌≡◌, ◌≢◌, inl, inr, ℕ, suc, ◌+◌, ◌<◌, ◌≤◌, Bool, true, false, List, [], ◌∷◌, ◌++◌, length, append-nil, option_and_then, Some, None, slice_get, refl, sym, ap, ◌∙◌, arith, subst}
-use Rattle.patr_model.specs.Structure.{Value, Atom, Node, Structure, arc, at, IsReached, IsStructure}
-use Rattle.patr_model.specs.Subsumption.{TakesBoth, IsUnifier}
-use Rattle.patr_model.specs.Settled.{Images, Keeps}
-use Rattle.patr_model.specs.Derivation.{Rules, Derivation, Extend, seen, size, IsPartial, IsComplete}
-use Rattle.patr_model.specs.Solution.{IsSolvable, IsLeastValue, with_slots}
-use Rattle.patr_model.proofs.Maps.{some_inj, carries_arc}
-use Rattle.patr_model.proofs.Total.{map_some}
-use Rattle.patr_model.proofs.Steps.{arc_value, solves_count, slot_there, takes_of_solution, unifier_of_partial, unifier_of_complete}
+use Rattle.patr_parse.proofs.Names.{Value, Atom, Node, Structure, arc, IsReached, IsStructure, IsUnifier, Images, Keeps, Rules, Derivation, Extend, size, IsSolvable, IsLeastValue, some_inj, map_some, arc_value, Feature, Ref, Shown, IsShown, ValueIsHeld, value_of, Extends, with_block, value_below, made_of, Counts, EdgeKind, Rule, Edge, kind_passive, AreEdges, derivations, derived, derived_by, is_judged, Stored, Bounds, HasSource, IsJoined, IsSoundEdge, daughters, Draft, IsDraft, with_root, HasMother, IsRootBy, ArePartners, IsReady}
+use Rattle.patr_model.specs.Structure.{at}
+use Rattle.patr_model.specs.Subsumption.{TakesBoth}
+use Rattle.patr_model.specs.Derivation.{seen, IsPartial, IsComplete}
+use Rattle.patr_model.specs.Solution.{with_slots}
+use Rattle.patr_model.proofs.Maps.{carries_arc}
+use Rattle.patr_model.proofs.Steps.{solves_count, slot_there, takes_of_solution, unifier_of_partial, unifier_of_complete}
 use Rattle.patr_arena.specs.declared.value.Value as its
-use Rattle.patr_arena.specs.declared.value.Feature.{Feature}
-use Rattle.patr_arena.specs.declared.value.Ref.{Ref}
-use Rattle.patr_arena.specs.Shown.{Shown, IsShown, ValueIsHeld, value_of}
-use Rattle.patr_arena.specs.Blocks.{Extends, with_block}
-use Rattle.patr_arena.proofs.Addresses.{value_below}
-use Rattle.patr_unify.specs.Copying.{IsMade, made_of}
-use Rattle.patr_unify.specs.Deciding.{Counts}
-use Rattle.patr_chart.specs.declared.edge.EdgeKind.{EdgeKind}
-use Rattle.patr_chart.specs.declared.edge.EdgeKind.TheVariants.{Entry, Rule}
-use Rattle.patr_chart.specs.declared.edge.Edge.{Edge}
-use Rattle.patr_chart.specs.Edges.{kind_passive, AreAdjacent}
-use Rattle.patr_chart.specs.Charted.{IsMadeOf, IsNext, AreEdges, derivations, derived, derived_by, tree}
+use Rattle.patr_unify.specs.Copying.{IsMade}
+use Rattle.patr_chart.specs.declared.edge.EdgeKind.TheVariants.{Entry}
+use Rattle.patr_chart.specs.Edges.{AreAdjacent}
+use Rattle.patr_chart.specs.Charted.{IsMadeOf, IsNext, tree}
 use Rattle.patr_chart.specs.Laws.{IsOfKind, KindFits, IsJudged}
-use Rattle.patr_chart.proofs.Shown.{is_tree, is_judged, next_kind, next_fits, kind_complete, kind_partial}
-use Rattle.patr_library.specs.Stored.{Stored, Bounds}
-use Rattle.patr_parse.specs.Found.{HasSource, IsJoined, IsRootOf, IsOfItem, IsSoundEdge, daughters}
-use Rattle.patr_parse.specs.declared.draft.Draft.{Draft}
+use Rattle.patr_chart.proofs.Shown.{is_tree, next_kind, next_fits, kind_complete, kind_partial}
+use Rattle.patr_parse.specs.Found.{IsRootOf, IsOfItem}
 use Rattle.patr_parse.specs.declared.work.Outcome.TheVariants as outcome
-use Rattle.patr_parse.specs.Drafts.{HasCombined, IsDraft, with_root}
-use Rattle.patr_parse.specs.Joining.{AreWithin, HasMother, IsRootBy}
-use Rattle.patr_parse.specs.Tasks.{ArePartners, IsReady}
+use Rattle.patr_parse.specs.Drafts.{HasCombined}
+use Rattle.patr_parse.specs.Joining.{AreWithin}
 use Rattle.patr_parse.proofs.Pairs.{tree_in}
 use Rattle.patr_parse.proofs.Longer.{unifier_sides}
 use Rattle.patr_parse.proofs.Counted.{counts_below}

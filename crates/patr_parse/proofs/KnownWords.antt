@@ -3,17 +3,12 @@ use Rattle.std.proofs.Common.{◌≡◌, ℕ, zero, suc, ◌+◌, ◌<◌, Bool,
 use Rattle.std.specs.List.{AllByRecursion, Contains, list_any}
 use Rattle.std.specs.Str.{bytes_eq}
 use Rattle.std.proofs.lemmas.Slice.Eq.{bytes_eq-Decides}
+use Rattle.patr_parse.proofs.Names.{Id, ids, places, some_inj, Stored, places_pass, passes_placed, AreKnownTo}
 use Rattle.patr_text.specs.Texts.{holds}
-use Rattle.patr_text.specs.declared.symbols.Id.{Id}
-use Rattle.patr_arena.specs.Paths.{ids}
-use Rattle.patr_model.specs.Numbered.{places}
 use Rattle.patr_model.specs.Table.{IsTable}
-use Rattle.patr_model.proofs.Maps.{some_inj}
 use Rattle.patr_lexicon.specs.Entries.{is_of}
-use Rattle.patr_library.specs.Stored.{Stored}
-use Rattle.patr_chart.proofs.Passing.{places_pass, passes_placed}
 use Rattle.patr_parse.specs.Sentences.{AreNumbers, IsKnown, IsFirstUnknown}
-use Rattle.patr_parse.specs.Words.{AreKnownTo, IsNumberOf}
+use Rattle.patr_parse.specs.Words.{IsNumberOf}
 use Rattle.patr_parse.proofs.Members.{first_contained}
 
 -- a text of the table is held

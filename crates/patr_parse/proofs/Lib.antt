@@ -1,3 +1,4 @@
+pub mod Names
 pub mod Longer
 pub mod Moved
 pub mod Counted

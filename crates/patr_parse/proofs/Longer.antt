@@ -1,9 +1,8 @@
 -- What stays the same in a structure with more nodes.
 use Rattle.std.proofs.Common.{◌≡◌, ℕ, ◌<◌, Bool, true, false, cond, nat_lt, ltb-true, ltb-false, List, [], ◌∷◌, ◌++◌, length, Option, Some, None, option_and_then, refl, sym, ap, ◌∙◌, arith, subst}
-use Rattle.patr_model.specs.Structure.{Value, Atom, Node, Structure, arc, at, IsReached, IsBelow, IsValue, IsStructure}
-use Rattle.patr_model.specs.Subsumption.{IsUnifier}
-use Rattle.patr_model.proofs.Maps.{some_inj, and_then_some, arc_of_longer, maps_transitive, maps_into_shorter, maps_into_longer}
-use Rattle.patr_model.proofs.Steps.{arc_value}
+use Rattle.patr_parse.proofs.Names.{Value, Atom, Node, Structure, arc, IsReached, IsValue, IsStructure, IsUnifier, some_inj, and_then_some, arc_of_longer, arc_value}
+use Rattle.patr_model.specs.Structure.{at, IsBelow}
+use Rattle.patr_model.proofs.Maps.{maps_transitive, maps_into_shorter, maps_into_longer}
 use Rattle.patr_model.proofs.EquationStructures.{at_value}
 
 -- ---- paths

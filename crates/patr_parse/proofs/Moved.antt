@@ -2,14 +2,13 @@
 use Rattle.std.proofs.Common.{◌≡◌, ◌≢◌, inl, inr, ℕ, ◌<◌, ◌≤◌, Bool, true, false, cond, nat_eq, nat_lt, eqb-true, eq-eqb, ltb-true, lt-ltb, List, [], ◌∷◌, ◌++◌, length, length-append, map, Option, Some, None, refl, sym, ap, ◌∙◌, arith, subst}
 use Rattle.std.specs.Option.{option_map}
 use Rattle.std.proofs.lemmas.List.{get_or_append_left, length-map}
-use Rattle.patr_model.specs.Structure.{Value, Atom, Node, Structure, arc, at, IsReached, IsValue, IsStructure}
-use Rattle.patr_model.specs.Subsumption.{image, IsMap, MapsInto, IsUnifier}
-use Rattle.patr_model.specs.Settled.{SideNode, Left, Right, IsSideNode, Images, image_of, arc_of, IsAlone, Keeps}
-use Rattle.patr_model.proofs.Maps.{some_inj, carries, arc_of_longer, after, after_is_map, image_after, maps_transitive, maps_into_longer, maps_into_shorter}
-use Rattle.patr_model.proofs.Steps.{has_place, arc_value}
-use Rattle.patr_model.proofs.Total.{map_some}
-use Rattle.patr_marks.specs.Machine.{IsIn, NoRepeats, own, total}
-use Rattle.patr_unify.specs.Deciding.{Counts}
+use Rattle.patr_parse.proofs.Names.{Value, Atom, Node, Structure, arc, IsReached, IsValue, IsStructure, IsUnifier, Images, Keeps, some_inj, arc_of_longer, arc_value, map_some, NoRepeats, own, total, Counts}
+use Rattle.patr_model.specs.Structure.{at}
+use Rattle.patr_model.specs.Subsumption.{image, IsMap, MapsInto}
+use Rattle.patr_model.specs.Settled.{SideNode, Left, Right, IsSideNode, image_of, arc_of, IsAlone}
+use Rattle.patr_model.proofs.Maps.{carries, after, after_is_map, image_after, maps_transitive, maps_into_longer, maps_into_shorter}
+use Rattle.patr_model.proofs.Steps.{has_place}
+use Rattle.patr_marks.specs.Machine.{IsIn}
 use Rattle.patr_parse.proofs.Longer.{at_same, reached_more, reached_less, reached_value, reached_on}
 
 -- a value whose node stands elsewhere

@@ -1,10 +1,9 @@
 -- Lists of edge numbers, and members by number.
 use Rattle.std.proofs.Common.{◌≡◌, ◌⊎◌, inl, inr, ℕ, zero, suc, ◌+◌, ◌<◌, ◌≤◌, List, [], ◌∷◌, ◌++◌, length, map, take, get_or, refl, sym, ap, arith, subst}
-use Rattle.patr_model.specs.Derivation.{Derivation}
-use Rattle.patr_model.specs.Chart.{IsIn, EachOnce}
+use Rattle.patr_model.specs.Chart.{IsIn}
 use Rattle.std.specs.List.{Contains}
 use Rattle.std.specs.List.Sorted.{IsStrictlyIncreasing}
-use Rattle.patr_parse.specs.Tasks.{Has}
+use Rattle.patr_parse.proofs.Names.{Derivation, EachOnce, Has}
 
 pub has_last : (xs : List ℕ) (x : ℕ) → Has (xs ++ x ∷ []) x
 has_last [] x = inl refl

@@ -1,20 +1,13 @@
 -- The pairs that a task decides are those of its edge, each once: so the sum of the partners is the number of adjacent pairs.
 use Rattle.std.proofs.Common.{◌≡◌, inl, inr, ℕ, suc, ◌+◌, ◌<◌, ◌≤◌, Bool, List, [], ◌∷◌, ◌++◌, length, take, map, Option, Some, None, slice_get, refl, sym, ap, arith, subst, length-append}
 use Rattle.std.proofs.lemmas.List.{length-map, length-take, take_more}
-use Rattle.patr_model.specs.Derivation.{Rules, Derivation, Begin}
-use Rattle.patr_model.specs.Chart.{IsIn, EachOnce}
-use Rattle.patr_model.specs.Rounds.{ArePairs, ArePairsOf, HasPairs}
+use Rattle.patr_parse.proofs.Names.{Rules, Derivation, Begin, EachOnce, HasPairs, Shown, Edge, is_passive, AreEdges, partners, derivations, get_below, KindsFit, Draft, AreMade, pair, Has}
+use Rattle.patr_model.specs.Chart.{IsIn}
+use Rattle.patr_model.specs.Rounds.{ArePairs, ArePairsOf}
 use Rattle.patr_model.proofs.Rounds.{counted}
-use Rattle.patr_arena.specs.Shown.{Shown}
-use Rattle.patr_chart.specs.declared.edge.Edge.{Edge}
-use Rattle.patr_chart.specs.Edges.{is_passive}
-use Rattle.patr_chart.specs.Charted.{AreEdges, is_partner, partners, partners_of, derivations, tree}
+use Rattle.patr_chart.specs.Charted.{is_partner, partners_of, tree}
 use Rattle.patr_chart.proofs.Places.{places_length}
-use Rattle.patr_chart.proofs.Trees.{get_below}
-use Rattle.patr_chart.specs.Laws.{KindsFit}
-use Rattle.patr_parse.specs.declared.draft.Draft.{Draft}
-use Rattle.patr_parse.specs.Drafts.{AreMade, TaskGave}
-use Rattle.patr_parse.specs.Tasks.{pair, Has}
+use Rattle.patr_parse.specs.Drafts.{TaskGave}
 use Rattle.patr_parse.proofs.Numbers.{in_map, in_taken, map_in, once_map, one_number}
 use Rattle.patr_parse.proofs.Tasks.{trees_length, pair_differs, is_partner_of, rising_partners, of_pair, has_pair, task_done}
 

@@ -1,14 +1,10 @@
 -- Sizes and pairs of edges that are there.
 use Rattle.std.proofs.Common.{◌≡◌, ℕ, Bool, true, false, cond, List, Some, slice_get, refl, sym, ap, ◌∙◌, arith}
-use Rattle.patr_model.specs.Derivation.{Rules, Begin, Extend}
+use Rattle.patr_parse.proofs.Names.{Rules, Begin, Extend, Edge, AreEdges, derivations, KindsFit, get_below, ArePartners, pair}
 use Rattle.patr_model.specs.Chart.{IsIn}
 use Rattle.patr_model.specs.Rounds.{IsPair}
-use Rattle.patr_chart.specs.declared.edge.Edge.{Edge}
-use Rattle.patr_chart.specs.Charted.{AreEdges, derivations, tree}
-use Rattle.patr_chart.specs.Laws.{KindsFit}
-use Rattle.patr_chart.proofs.Trees.{get_below}
+use Rattle.patr_chart.specs.Charted.{tree}
 use Rattle.patr_chart.proofs.Shown.{pairs_are}
-use Rattle.patr_parse.specs.Tasks.{ArePartners, pair}
 use Rattle.patr_parse.proofs.Numbers.{at_in}
 use Rattle.patr_parse.proofs.Tasks.{trees_length}
 

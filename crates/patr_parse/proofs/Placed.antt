@@ -4,17 +4,12 @@ use Rattle.std.specs.Option.{option_map}
 use Rattle.std.specs.List.{sum}
 use Rattle.std.proofs.lemmas.List.{length-map, get_or_append_left, get_or-append-add, take_all}
 use Rattle.std.proofs.Math.ListN.{get_or-map}
-use Rattle.patr_model.specs.Structure.{Value, Atom, Node, Structure, along, arc, IsValue, IsStructure}
-use Rattle.patr_model.proofs.Maps.{arc_of_longer}
-use Rattle.patr_model.proofs.Steps.{arc_value}
-use Rattle.patr_arena.specs.declared.value.Ref.{Ref}
+use Rattle.patr_parse.proofs.Names.{Value, Atom, Node, Structure, arc, IsValue, IsStructure, arc_of_longer, arc_value, Ref, Feature, Shown, IsShown, number_of, Extends, with_block, held_below, same_number_held, own, made_of}
+use Rattle.patr_model.specs.Structure.{along}
 use Rattle.patr_arena.specs.declared.value.Ref.TheVariants as ref
-use Rattle.patr_arena.specs.declared.value.Feature.{Feature}
-use Rattle.patr_arena.specs.Shown.{Shown, IsShown, number_of, ref_of, arc_from, arcs_from}
-use Rattle.patr_arena.specs.Blocks.{AllOldHeld, Extends, OldIsHeld, OldRefIsHeld, with_block}
-use Rattle.patr_arena.proofs.Showing.{held_below, same_number, same_number_held}
-use Rattle.patr_marks.specs.Machine.{own}
-use Rattle.patr_unify.specs.Copying.{made_of}
+use Rattle.patr_arena.specs.Shown.{ref_of, arc_from, arcs_from}
+use Rattle.patr_arena.specs.Blocks.{AllOldHeld, OldIsHeld, OldRefIsHeld}
+use Rattle.patr_arena.proofs.Showing.{same_number}
 use Rattle.patr_parse.proofs.Moved.{IsMoved, moved}
 
 pub block_behind : (v : Shown) (block : List (List Feature)) → Extends v (with_block v block)

@@ -2,38 +2,26 @@
 use Rattle.std.proofs.Common.{◌≡◌, ◌⊎◌, inl, inr, ℕ, zero, suc, ◌+◌, ◌<◌, ◌≤◌, Bool, true, false, cond, ◌&&◌, nat_eq, List, [], ◌∷◌, ◌++◌, length, map, get_or, Option, Some, None, slice_get, option_and_then, refl, sym, ap, ◌∙◌, arith, subst, length-append, eqb-true, eq-eqb, nat_lt, ltb-true, ltb-false}
 use Rattle.std.proofs.lemmas.List.{get_or_append_left}
 use Rattle.std.proofs.lemmas.Option.{slice_get_within}
-use Rattle.patr_model.specs.Structure.{Value, Atom, Node, Structure, at}
+use Rattle.patr_parse.proofs.Names.{Value, Atom, Node, Structure, Rules, Derivation, Leaf, Begin, Extend, end, IsSolvable, IsLeastValue, InChart, Each, IsNoPair, some_inj, and_then_some, in_either, Shown, value_of, Edge, derivations, from_length, get_below, RuleItem, EntryItem, Stored, IsStored, rules_of, keys, is_of_word, Mark, AreSound, judge, made_by, Stands, begun_at, begun_by, next_of, HasMark, HasMarkOf, IsAloneEdge, ArePredicted, IsMarked}
+use Rattle.patr_model.specs.Structure.{at}
 use Rattle.patr_model.specs.Category.{atom_of}
 use Rattle.patr_model.specs.Derivation as derivation
-use Rattle.patr_model.specs.Derivation.{Rules, RuleVariant, EntryVariant, Derivation, Leaf, Begin, Extend, rule_variant, entry_variant, root_rule, end, IsPartial, IsComplete}
-use Rattle.patr_model.specs.Solution.{IsSolvable, IsLeastValue}
-use Rattle.patr_model.specs.Chart.{InChart, IsIn}
+use Rattle.patr_model.specs.Derivation.{RuleVariant, EntryVariant, rule_variant, entry_variant, root_rule, IsPartial, IsComplete}
+use Rattle.patr_model.specs.Chart.{IsIn}
 use Rattle.patr_model.specs.Plain.{slot_category}
 use Rattle.patr_model.specs.Builds.{HasCategories}
 use Rattle.patr_model.specs.Equation.{Equation}
 use Rattle.patr_model.specs.Grammar.{variants}
 use Rattle.patr_model.specs.Build.{entry_variant_of, entry_variants, feature_variants}
-use Rattle.patr_model.specs.Renaming.{Each}
-use Rattle.patr_model.specs.Rounds.{IsNoPair, IsPredicted}
-use Rattle.patr_model.proofs.Maps.{some_inj, and_then_some}
-use Rattle.patr_model.proofs.Rounds.{in_left, in_right, in_either}
+use Rattle.patr_model.specs.Rounds.{IsPredicted}
+use Rattle.patr_model.proofs.Rounds.{in_left, in_right}
 use Rattle.patr_model.proofs.PlainChart.{follows, plainly, slot_atom, slot_is}
 use Rattle.patr_model.proofs.StatedCategories.{are_built}
-use Rattle.patr_arena.specs.Shown.{Shown, value_of}
-use Rattle.patr_chart.specs.declared.edge.Edge.{Edge}
-use Rattle.patr_chart.specs.Charted.{derivations, tree}
-use Rattle.patr_chart.proofs.Trees.{from_length, get_below}
+use Rattle.patr_chart.specs.Charted.{tree}
 use Rattle.patr_lexicon.specs.declared.lexicon.Entry.{Entry}
 use Rattle.patr_lexicon.specs.Seen.{entry_seen}
-use Rattle.patr_library.specs.declared.item.RuleItem.{RuleItem}
-use Rattle.patr_library.specs.declared.item.EntryItem.{EntryItem}
-use Rattle.patr_library.specs.Stored.{Stored, IsStored, rules_of, grammar_of, entries_of, keys, number, word_at, is_number, is_of_word}
-use Rattle.patr_parse.specs.declared.prediction.Mark.{Mark}
-use Rattle.patr_parse.specs.Found.{AreSound}
-use Rattle.patr_parse.specs.Tasks.{judge, made_by}
-use Rattle.patr_parse.specs.Standing.{Stands}
-use Rattle.patr_parse.specs.Begun.{begun_at, begun_unless, begun_by, next_of, is_marked, HasMark, HasMarkOf, IsAloneEdge}
-use Rattle.patr_parse.specs.Predicting.{ArePredicted, IsMarked}
+use Rattle.patr_library.specs.Stored.{grammar_of, entries_of, number, word_at, is_number}
+use Rattle.patr_parse.specs.Begun.{begun_unless, is_marked}
 use Rattle.patr_parse.proofs.Members.{place_of}
 use Rattle.patr_parse.proofs.Numbers.{at_in}
 use Rattle.patr_parse.proofs.Added.{AreNew, none_new, derivations_new}

@@ -2,17 +2,8 @@
 use Rattle.std.proofs.Common.{◌≡◌, ℕ, suc, ◌+◌, ◌<◌, ◌≤◌, Bool, true, List, [], ◌∷◌, ◌++◌, length, take, drop, get_or, map, sym, ap, ◌∙◌, arith, subst, append_assoc, append-nil, length-append}
 use Rattle.std.proofs.lemmas.List.{length-map, length-take-le, take_more, map-append, take-append-drop}
 use Rattle.std.proofs.Math.Seq.{take-length}
-use Rattle.patr_text.specs.declared.symbols.Id.{Id}
-use Rattle.patr_model.specs.Derivation.{Rules, Derivation}
-use Rattle.patr_model.specs.Renaming.{Each}
-use Rattle.patr_arena.specs.Shown.{Shown}
-use Rattle.patr_chart.specs.declared.edge.Edge.{Edge}
-use Rattle.patr_library.specs.Stored.{Stored}
-use Rattle.patr_parse.specs.Begun.{leaves_at, leaves_from, ArePushed, IsAloneEdge}
 use Rattle.std.proofs.lemmas.Option.{slice_get_within}
-use Rattle.patr_model.specs.Numbered.{places}
-use Rattle.patr_chart.specs.Charted.{HasOrigin, IsEdgeAfter}
-use Rattle.patr_parse.specs.Tasks.{Has}
+use Rattle.patr_parse.proofs.Names.{Id, Rules, Derivation, Each, Shown, Edge, Stored, leaves_at, leaves_from, ArePushed, IsAloneEdge, places, HasOrigin, IsEdgeAfter, Has}
 use Rattle.patr_parse.proofs.Numbers.{has_at}
 use Rattle.patr_parse.proofs.Items.{placed_is}
 use Rattle.patr_parse.proofs.Added.{each_append, each_length}

@@ -1,27 +1,8 @@
 -- A draft's edge, once its nodes stand behind some others.
 use Rattle.std.proofs.Common.{◌≡◌, ℕ, Bool, true, false, List, [], ◌∷◌, ◌++◌, length, Some, slice_get, refl, sym, ap, ◌∙◌, arith, subst}
-use Rattle.patr_model.specs.Structure.{Value, Structure, arc, IsStructure}
-use Rattle.patr_model.specs.Subsumption.{IsUnifier}
-use Rattle.patr_model.specs.Settled.{Images, Keeps}
-use Rattle.patr_model.specs.Derivation.{Rules, size}
-use Rattle.patr_model.specs.Solution.{IsLeastValue}
-use Rattle.patr_model.proofs.Steps.{arc_value}
-use Rattle.patr_model.proofs.Total.{map_some}
+use Rattle.patr_parse.proofs.Names.{Value, Structure, arc, IsStructure, IsUnifier, Images, Keeps, Rules, size, IsLeastValue, arc_value, map_some, Extends, with_block, Shown, IsShown, ValueIsHeld, value_of, value_below, made_of, Counts, Edge, kind_passive, derivations, derived, derived_by, Stored, Bounds, Draft, IsDraft, with_root, HasSource, IsJoined, IsSoundEdge, daughters, IsRootBy, IsReady}
 use Rattle.patr_arena.specs.declared.value.Value as its
-use Rattle.patr_arena.specs.Blocks.{Extends, with_block}
-use Rattle.patr_arena.specs.Shown.{Shown, IsShown, ValueIsHeld, value_of}
-use Rattle.patr_arena.proofs.Addresses.{value_below}
-use Rattle.patr_unify.specs.Copying.{made_of}
-use Rattle.patr_unify.specs.Deciding.{Counts}
-use Rattle.patr_chart.specs.declared.edge.Edge.{Edge}
-use Rattle.patr_chart.specs.Edges.{kind_passive}
-use Rattle.patr_chart.specs.Charted.{derivations, derived, derived_by, tree}
-use Rattle.patr_library.specs.Stored.{Stored, Bounds}
-use Rattle.patr_parse.specs.declared.draft.Draft.{Draft}
-use Rattle.patr_parse.specs.Drafts.{IsDraft, with_root}
-use Rattle.patr_parse.specs.Found.{HasSource, IsJoined, IsSoundEdge, daughters}
-use Rattle.patr_parse.specs.Joining.{IsRootBy}
-use Rattle.patr_parse.specs.Tasks.{IsReady}
+use Rattle.patr_chart.specs.Charted.{tree}
 use Rattle.patr_parse.proofs.Counted.{counts_below}
 use Rattle.patr_parse.proofs.Growing.{back, extends_on}
 use Rattle.patr_parse.proofs.Joins.{least_by, next_item, root_of_edge, slot_reached, sum_of_sizes}

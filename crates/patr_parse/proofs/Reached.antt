@@ -1,10 +1,10 @@
 -- What a value reaches is a list of nodes: so it can be counted.
 use Rattle.std.proofs.Common.{◌≡◌, ◌⊎◌, inl, inr, ℕ, zero, suc, ◌<◌, Bool, true, false, cond, nat_eq, eqb-true, List, [], ◌∷◌, length, Option, Some, None, option_and_then, slice_get, refl, sym, ap, ◌∙◌, arith, subst}
 use Rattle.std.proofs.lemmas.Bool.{eqb-false}
-use Rattle.patr_model.specs.Structure.{Value, Atom, Node, Arc, Arcs, Structure, along, HasDistinct, arc, arcs_of, at, IsReached, IsBelow, IsValue, IsStructure}
-use Rattle.patr_model.proofs.Maps.{some_inj, and_then_some}
-use Rattle.patr_marks.specs.Machine.{IsIn, NoRepeats, own, total}
-use Rattle.patr_unify.specs.Deciding.{IsReachOf, Counts}
+use Rattle.patr_parse.proofs.Names.{Value, Atom, Node, Structure, arc, IsReached, IsValue, IsStructure, some_inj, and_then_some, NoRepeats, own, total, Counts}
+use Rattle.patr_model.specs.Structure.{Arc, Arcs, along, HasDistinct, arcs_of, at, IsBelow}
+use Rattle.patr_marks.specs.Machine.{IsIn}
+use Rattle.patr_unify.specs.Deciding.{IsReachOf}
 
 -- ---- lists of numbers
 

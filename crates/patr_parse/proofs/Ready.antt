@@ -1,24 +1,14 @@
 -- What a round needs is there: before it, and after more edges were predicted.
 use Rattle.std.proofs.Common.{◌≡◌, inl, inr, ℕ, ◌+◌, ◌<◌, ◌≤◌, List, [], ◌∷◌, ◌++◌, length, length-append, append_assoc, take, true, false, refl, sym, ap, ◌∙◌, arith, subst}
 use Rattle.std.proofs.lemmas.List.{take-append-le}
-use Rattle.patr_model.specs.Derivation.{Rules, Derivation, Leaf, Begin, Extend, end, size}
-use Rattle.patr_model.specs.Chart.{Judgement, HasMoreThan, IsIn}
-use Rattle.patr_model.specs.Renaming.{Each}
-use Rattle.patr_model.proofs.Rounds.{in_left, in_either}
-use Rattle.patr_arena.specs.Shown.{Shown}
-use Rattle.patr_arena.specs.Blocks.{Extends}
-use Rattle.patr_arena.proofs.Showing.{still_held}
-use Rattle.patr_chart.specs.declared.edge.Edge.{Edge}
-use Rattle.patr_chart.specs.declared.edge.EdgeKind.{EdgeKind}
-use Rattle.patr_chart.specs.declared.edge.EdgeKind.TheVariants.{Entry, Rule}
-use Rattle.patr_chart.specs.Charted.{alone, derivations, tree}
-use Rattle.patr_library.specs.Stored.{Stored, IsStored, rules_of}
+use Rattle.patr_parse.proofs.Names.{Rules, Derivation, Leaf, Begin, Extend, end, size, Judgement, HasMoreThan, Each, in_either, Shown, Extends, still_held, Edge, EdgeKind, Rule, derivations, Stored, IsStored, rules_of, AreSound, AreSmall, IsReady, ItemsAreHeld, judge, Stands, begun_by, next_of, ArePushed, HasMarkOf, IsAloneEdge, ArePredicted, IsMarked}
+use Rattle.patr_model.specs.Chart.{IsIn}
+use Rattle.patr_model.proofs.Rounds.{in_left}
+use Rattle.patr_chart.specs.declared.edge.EdgeKind.TheVariants.{Entry}
+use Rattle.patr_chart.specs.Charted.{alone, tree}
 use Rattle.patr_parse.specs.declared.prediction.Prediction.{Prediction}
-use Rattle.patr_parse.specs.Found.{AreSound}
-use Rattle.patr_parse.specs.Tasks.{AreSmall, IsReady, ItemsAreHeld, judge}
-use Rattle.patr_parse.specs.Standing.{Stands, IsGrown}
-use Rattle.patr_parse.specs.Begun.{begun_by, next_of, ArePushed, HasMarkOf, IsAloneEdge}
-use Rattle.patr_parse.specs.Predicting.{ArePredicted, IsFurther, IsMarked, IsPrediction}
+use Rattle.patr_parse.specs.Standing.{IsGrown}
+use Rattle.patr_parse.specs.Predicting.{IsFurther, IsPrediction}
 use Rattle.patr_parse.proofs.Tasks.{trees_length}
 use Rattle.patr_parse.proofs.Standing.{once_left}
 use Rattle.patr_parse.proofs.Added.{AreNew, derivations_new, passes_new, sound_new, stands_new, each_is, alones, alone_edge}

@@ -1,9 +1,7 @@
 -- A parsed sentence is what is promised.
 use Rattle.std.proofs.Common.{◌≡◌, ◌≤◌, ℕ, suc, List, [], ◌∷◌, length, refl, ap, arith}
 use Rattle.std.proofs.lemmas.List.{length-map}
-use Rattle.patr_text.specs.declared.symbols.Id.{Id}
-use Rattle.patr_arena.specs.Paths.{ids}
-use Rattle.patr_model.specs.Renaming.{Each}
+use Rattle.patr_parse.proofs.Names.{Id, ids, Each}
 
 pub same_length : {X Y : Type 0} (R : X → Y → Type 0) (xs : List X) (ys : List Y) → Each R xs ys → length xs ≡ length ys
 same_length R [] [] h = refl

@@ -2,20 +2,15 @@
 use Rattle.std.proofs.Common.{◌≡◌, inl, inr, ℕ, zero, suc, ◌+◌, ◌<◌, ◌≤◌, List, [], ◌∷◌, ◌++◌, length, take, Option, Some, None, slice_get, refl, sym, ap, ◌∙◌, arith, subst, append-nil, append_assoc, length-append}
 use Rattle.std.proofs.lemmas.List.{map-append, length-map, take_more, take-append-le, get_or_append_left}
 use Rattle.std.proofs.Math.Seq.{take-length}
-use Rattle.patr_model.specs.Derivation.{Rules, Derivation, Begin, Extend}
-use Rattle.patr_model.specs.Chart.{Judgement, InChart, IsIn, EachOnce, IsChart, HasMoreThan}
-use Rattle.patr_model.proofs.Maps.{some_inj}
-use Rattle.patr_model.specs.Rounds.{IsWorked, IsPredicted, IsYield}
-use Rattle.patr_model.proofs.Rounds.{in_left, in_either, rounds}
-use Rattle.patr_chart.specs.declared.edge.EdgeKind.{EdgeKind}
-use Rattle.patr_chart.specs.declared.edge.EdgeKind.TheVariants.{Entry, Rule}
-use Rattle.patr_chart.specs.declared.edge.Back.{Back}
-use Rattle.patr_chart.specs.declared.edge.Edge.{Edge}
-use Rattle.patr_chart.specs.Charted.{HasOrigin, IsEdgeAfter, alone, derivation_at, derived_by, derived, derivations_from, derivations, tree}
-use Rattle.patr_chart.specs.Laws.{KindsFit}
-use Rattle.patr_chart.proofs.Trees.{get_below, from_append}
-use Rattle.patr_parse.specs.Tasks.{by_edges, made_by, AreSmall, HasLarge}
-use Rattle.patr_parse.specs.Standing.{Stands, MayBePushed, IsMadeOfTwo, IsRound}
+use Rattle.patr_parse.proofs.Names.{Rules, Derivation, Begin, Extend, Judgement, InChart, EachOnce, IsChart, HasMoreThan, some_inj, IsWorked, in_either, rounds, EdgeKind, Rule, Back, Edge, HasOrigin, IsEdgeAfter, derived_by, derived, derivations, KindsFit, get_below, made_by, AreSmall, Stands}
+use Rattle.patr_model.specs.Chart.{IsIn}
+use Rattle.patr_model.specs.Rounds.{IsPredicted, IsYield}
+use Rattle.patr_model.proofs.Rounds.{in_left}
+use Rattle.patr_chart.specs.declared.edge.EdgeKind.TheVariants.{Entry}
+use Rattle.patr_chart.specs.Charted.{alone, derivation_at, derivations_from, tree}
+use Rattle.patr_chart.proofs.Trees.{from_append}
+use Rattle.patr_parse.specs.Tasks.{by_edges, HasLarge}
+use Rattle.patr_parse.specs.Standing.{MayBePushed, IsMadeOfTwo, IsRound}
 use Rattle.patr_parse.proofs.Numbers.{at_in, in_taken, one_number}
 use Rattle.patr_parse.proofs.Tasks.{trees_length}
 use Rattle.patr_parse.proofs.Growing.{get_parts}

@@ -1,22 +1,16 @@
 -- The edges that a task makes.
 use Rattle.std.proofs.Common.{◌≡◌, inl, inr, ℕ, zero, suc, ◌<◌, Bool, true, false, cond, List, [], ◌∷◌, ◌++◌, length, take, get_or, Some, slice_get, refl, sym, ap, ◌∙◌, arith, subst, append_assoc}
 use Rattle.std.proofs.lemmas.List.{map-append}
-use Rattle.patr_model.specs.Derivation.{Rules, Derivation, Begin, Extend}
-use Rattle.patr_model.specs.Chart.{IsIn, EachOnce}
+use Rattle.patr_parse.proofs.Names.{Rules, Derivation, Begin, Extend, EachOnce, IsSolvable, Shown, in_either, Edge, is_passive, AreEdges, partners, derived, derivations, KindsFit, get_below, from_length, ArePartners, pair, Has, made_by, Draft, AreMade, IsDraft}
+use Rattle.patr_model.specs.Chart.{IsIn}
 use Rattle.patr_model.specs.Rounds.{IsAdjacent, IsPairOf, IsYield}
-use Rattle.patr_model.specs.Solution.{IsSolvable}
-use Rattle.patr_arena.specs.Shown.{Shown}
-use Rattle.patr_model.proofs.Rounds.{in_left, in_right, in_either, in_one, once_append}
-use Rattle.patr_chart.specs.declared.edge.Edge.{Edge}
-use Rattle.patr_chart.specs.Edges.{is_passive}
-use Rattle.patr_chart.specs.Charted.{AreEdges, partners, derived, derivations, tree}
-use Rattle.patr_chart.specs.Laws.{IsPartnerBefore, KindsFit}
-use Rattle.patr_chart.proofs.Trees.{get_below, from_length}
+use Rattle.patr_model.proofs.Rounds.{in_left, in_right, in_one, once_append}
+use Rattle.patr_chart.specs.Charted.{tree}
+use Rattle.patr_chart.specs.Laws.{IsPartnerBefore}
 use Rattle.patr_chart.proofs.Partners.{has_partners}
 use Rattle.patr_chart.proofs.Shown.{pairs_are}
-use Rattle.patr_parse.specs.Tasks.{ArePartners, pair, Has, by_edges, made_by}
-use Rattle.patr_parse.specs.declared.draft.Draft.{Draft}
-use Rattle.patr_parse.specs.Drafts.{AreDrafts, AreMade, IsDecided, IsDraft, edges_of}
+use Rattle.patr_parse.specs.Tasks.{by_edges}
+use Rattle.patr_parse.specs.Drafts.{AreDrafts, IsDecided, edges_of}
 use Rattle.patr_parse.proofs.Members.{all_more, element_at}
 use Rattle.patr_parse.proofs.Numbers.{Rising, rising_of, has_contains, contains_has, has_last, has_left, has_either, in_taken, taken_in, one_number}
 

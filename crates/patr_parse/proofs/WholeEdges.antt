@@ -1,29 +1,21 @@
 -- The passive edges of the start symbol over all the words are the analyses.
 use Rattle.std.proofs.Common.{◌≡◌, ℕ, zero, suc, Bool, true, false, cond, ◌&&◌, nat_eq, eqb-true, eq-eqb, List, [], ◌∷◌, length, take, Option, Some, None, option_and_then, slice_get, refl, sym, ap, ◌∙◌, arith, subst}
+use Rattle.patr_parse.proofs.Names.{Value, Atom, Node, Structure, Rules, Derivation, Begin, InChart, IsChart, IsSolvable, IsLeastValue, variant_steps, Shown, value_of, EdgeKind, Rule, Edge, is_passive, HasOrigin, AreEdges, derivations, KindsFit, get_below, from_length, is_judged, RuleItem, Stored, IsRuleItem, keys, root_of, AreSound, is_whole}
 use Rattle.patr_model.specs.Structure as structure
-use Rattle.patr_model.specs.Structure.{Value, Atom, Node, Structure}
 use Rattle.patr_model.specs.Category.{atom_of, atom_at}
-use Rattle.patr_model.specs.Derivation.{Rules, Derivation, Begin, rule_variant}
-use Rattle.patr_model.specs.Chart.{InChart, word, first, predicted, extended, IsChart, IsDerivation, IsAnalysis}
-use Rattle.patr_model.specs.Solution.{IsSolvable, IsLeastValue}
+use Rattle.patr_model.specs.Derivation.{rule_variant}
+use Rattle.patr_model.specs.Chart.{word, first, predicted, extended, IsDerivation, IsAnalysis}
 use Rattle.patr_model.specs.Solved.{solved}
 use Rattle.patr_model.specs.Laws.{HaveLeastValues}
 use Rattle.patr_model.proofs.Categories.{least_into}
 use Rattle.patr_model.proofs.Prediction.{atoms_stay}
-use Rattle.patr_model.proofs.Variants.{variant_steps}
-use Rattle.patr_arena.specs.Shown.{Shown, value_of}
-use Rattle.patr_chart.specs.declared.edge.EdgeKind.{EdgeKind}
-use Rattle.patr_chart.specs.declared.edge.EdgeKind.TheVariants.{Entry, Rule}
-use Rattle.patr_chart.specs.declared.edge.Edge.{Edge}
-use Rattle.patr_chart.specs.Edges.{is_passive}
-use Rattle.patr_chart.specs.Charted.{IsAlone, HasOrigin, AreEdges, derivations, starts_at, tree}
-use Rattle.patr_chart.specs.Laws.{KindFits, KindsFit, IsJudged}
-use Rattle.patr_chart.proofs.Trees.{get_below, from_length, tree_of}
-use Rattle.patr_chart.proofs.Shown.{is_judged}
-use Rattle.patr_library.specs.declared.item.RuleItem.{RuleItem}
-use Rattle.patr_library.specs.Stored.{Stored, HasItems, IsRuleItem, keys, root_of}
-use Rattle.patr_parse.specs.Found.{AreSound, IsOfItem}
-use Rattle.patr_parse.specs.Analyses.{is_atom, has_category, is_whole}
+use Rattle.patr_chart.specs.declared.edge.EdgeKind.TheVariants.{Entry}
+use Rattle.patr_chart.specs.Charted.{IsAlone, starts_at, tree}
+use Rattle.patr_chart.specs.Laws.{KindFits, IsJudged}
+use Rattle.patr_chart.proofs.Trees.{tree_of}
+use Rattle.patr_library.specs.Stored.{HasItems}
+use Rattle.patr_parse.specs.Found.{IsOfItem}
+use Rattle.patr_parse.specs.Analyses.{is_atom, has_category}
 use Rattle.patr_parse.proofs.Tasks.{trees_length}
 use Rattle.patr_parse.proofs.Members.{all_get, all_there, element_at, place_of}
 

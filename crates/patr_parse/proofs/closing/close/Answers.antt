@@ -1,13 +1,7 @@
 use Rattle.std.proofs.Common.{◌≡◌, [], true, false, length, map, take, sym, ap, subst, ◌∙◌, ◌++◌, arith, rules}
 use Rattle.std.proofs.lemmas.List.{length-map, take-append-le}
 use Rattle.std.proofs.Math.Seq.{take-length}
-use Rattle.patr_text.specs.declared.symbols.Id.{Id}
-use Rattle.patr_model.specs.Rounds.{HasPairs}
-use Rattle.patr_arena.specs.Sentences.{sentence_of}
-use Rattle.patr_chart.specs.Charted.{derivations}
-use Rattle.patr_library.specs.Stored.{rules_of}
-use Rattle.patr_parse.specs.Tasks.{judge, made_by}
-use Rattle.patr_parse.specs.Standing.{Stands}
+use Rattle.patr_parse.proofs.Names.{Id, HasPairs, sentence_of, derivations, rules_of, judge, made_by, Stands}
 use Rattle.patr_parse.proofs.Tasks.{trees_length}
 use Rattle.patr_parse.proofs.Standing.{is_closed, not_more}
 use Rattle.patr_parse.proofs.Growing.{extends_on}

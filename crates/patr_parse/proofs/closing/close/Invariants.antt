@@ -1,11 +1,6 @@
 use Rattle.std.proofs.Common.{◌≡◌, ◌≤◌, ◌*◌, ◌-◌, [], length, map, take}
-use Rattle.patr_text.specs.declared.symbols.Id.{Id}
-use Rattle.patr_model.specs.Rounds.{HasPairs}
-use Rattle.patr_arena.specs.Sentences.{sentence_of}
-use Rattle.patr_chart.specs.Charted.{derivations}
-use Rattle.patr_library.specs.Stored.{rules_of}
-use Rattle.patr_parse.specs.Tasks.{judge, IsOver, IsReady}
-use Rattle.patr_parse.specs.Standing.{Stands}
+use Rattle.patr_parse.proofs.Names.{Id, HasPairs, sentence_of, derivations, rules_of, judge, IsReady, Stands}
+use Rattle.patr_parse.specs.Tasks.{IsOver}
 use Rattle.patr_parse.specs.Predicting.{IsPrediction}
 use Rattle.patr_parse.proofs.closing.close.Given as goal
 

@@ -1,14 +1,6 @@
 use Rattle.std.proofs.Common.{◌≡◌, ℕ, true, false, rules, List, map, Bor, length, refl, sym, ap, ◌∙◌, subst, arith}
-use Rattle.patr_arena.specs.Blocks.{Extends}
-use Rattle.patr_arena.specs.Paths.{ids}
-use Rattle.patr_arena.specs.Sentences.{sentence_of}
-use Rattle.patr_arena.specs.Shown.{IsShown}
-use Rattle.patr_library.specs.Stored.{rules_of, keys}
-use Rattle.patr_model.specs.Chart.{HasMoreThan}
-use Rattle.patr_parse.specs.Analyses.{AreAll}
+use Rattle.patr_parse.proofs.Names.{Extends, ids, sentence_of, IsShown, rules_of, keys, HasMoreThan, AreAll, AreSound, judge}
 use Rattle.patr_parse.specs.Closing.{IsClosed}
-use Rattle.patr_parse.specs.Found.{AreSound}
-use Rattle.patr_parse.specs.Tasks.{judge}
 use Rattle.patr_parse.proofs.Growing.{extends_same}
 use Rattle.patr_parse.proofs.Sound.{numbers_short}
 use Rattle.patr_parse.proofs.parse.parse_words.Goals as goal

@@ -1,6 +1,6 @@
 use Rattle.std.proofs.Common.{◌≡◌, ◌<◌, ◌+◌, true, false, length, map, refl, ◌∙◌, subst, arith, rules}
-use Rattle.patr_arena.specs.Sentences.{sentence_of}
-use Rattle.patr_library.specs.Stored.{rules_of, is_of_mother}
+use Rattle.patr_parse.proofs.Names.{sentence_of, rules_of}
+use Rattle.patr_library.specs.Stored.{is_of_mother}
 use Rattle.patr_parse.specs.Begun.{begun}
 use Rattle.patr_parse.proofs.Pushed.{all_pushed, behind_none, behind_next, no_next, after_alone, placed_below}
 use Rattle.patr_parse.proofs.prediction.begin_rules.Goals as goal

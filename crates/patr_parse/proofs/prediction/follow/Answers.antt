@@ -1,11 +1,7 @@
 use Rattle.std.proofs.Common.{◌≡◌, Option, Some, None, ℕ, [], refl, sym, ap, ◌∙◌, subst, true, append-nil, IfOk}
 use Rattle.std.specs.Option.{option_map}
-use Rattle.patr_text.specs.declared.symbols.Id.{Id}
-use Rattle.patr_model.specs.Derivation.{end}
-use Rattle.patr_arena.specs.Sentences.{sentence_of}
+use Rattle.patr_parse.proofs.Names.{Id, end, sentence_of, rules_of, ArePushed, HasMarkOf, begun_by, next_of}
 use Rattle.patr_chart.specs.Charted.{tree}
-use Rattle.patr_library.specs.Stored.{rules_of}
-use Rattle.patr_parse.specs.Begun.{ArePushed, HasMarkOf, begun_by, next_of}
 use Rattle.patr_parse.proofs.prediction.follow.Goals as goal
 
 pub returns-in_default-clause-pushed : goal.returns-in_default-clause-pushed

@@ -1,9 +1,6 @@
 use Rattle.std.proofs.Common.{◌∙◌, List, [], map, true, cond, nat_eq, ◌&&◌, refl, ap, subst}
-use Rattle.patr_text.specs.declared.symbols.Id.{Id}
-use Rattle.patr_arena.specs.Sentences.{sentence_of}
-use Rattle.patr_library.specs.Stored.{rules_of}
-use Rattle.patr_parse.specs.declared.prediction.Mark.{Mark}
-use Rattle.patr_parse.specs.Begun.{leaves_from, begun_at, is_marked, HasMark, ArePushed}
+use Rattle.patr_parse.proofs.Names.{Id, sentence_of, rules_of, Mark, leaves_from, begun_at, HasMark, ArePushed}
+use Rattle.patr_parse.specs.Begun.{is_marked}
 use Rattle.patr_parse.proofs.Begins.{words_passed, start_passed, initialized}
 use Rattle.patr_parse.proofs.prediction.initialize.Goals as goal
 

@@ -1,8 +1,6 @@
 use Rattle.std.proofs.Common.{Some, sym, ap, ◌∙◌, subst}
-use Rattle.patr_arena.specs.Sentences.{sentence_of}
+use Rattle.patr_parse.proofs.Names.{sentence_of, rules_of, next_of}
 use Rattle.patr_chart.specs.Charted.{tree}
-use Rattle.patr_library.specs.Stored.{rules_of}
-use Rattle.patr_parse.specs.Begun.{next_of}
 use Rattle.patr_parse.proofs.NextCategories.{HasFound, passive_none, found_category}
 use Rattle.patr_parse.proofs.prediction.next_category.Goals as goal
 

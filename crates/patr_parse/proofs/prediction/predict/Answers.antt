@@ -1,12 +1,6 @@
 use Rattle.std.proofs.Common.{◌≡◌, ◌∙◌, ◌<◌, [], length, map, refl, sym, append-nil, subst, arith}
-use Rattle.patr_text.specs.declared.symbols.Id.{Id}
-use Rattle.patr_model.specs.Derivation.{end}
-use Rattle.patr_arena.specs.Sentences.{sentence_of}
+use Rattle.patr_parse.proofs.Names.{Id, end, sentence_of, rules_of, judge, begun_by, next_of, ArePushed, ArePredicted, IsMarked}
 use Rattle.patr_chart.specs.Charted.{tree}
-use Rattle.patr_library.specs.Stored.{rules_of}
-use Rattle.patr_parse.specs.Tasks.{judge}
-use Rattle.patr_parse.specs.Begun.{begun_by, next_of, ArePushed}
-use Rattle.patr_parse.specs.Predicting.{ArePredicted, IsMarked}
 use Rattle.patr_parse.proofs.Predicting.{predicted_all}
 use Rattle.patr_parse.proofs.Ready.{further, not_further}
 use Rattle.patr_parse.proofs.prediction.predict.Goals as goal

@@ -1,6 +1,5 @@
 use Rattle.std.proofs.Common.{◌≡◌, ◌-◌, map}
-use Rattle.patr_text.specs.declared.symbols.Id.{Id}
-use Rattle.patr_arena.specs.Sentences.{sentence_of}
+use Rattle.patr_parse.proofs.Names.{Id, sentence_of}
 use Rattle.patr_parse.specs.Predicting.{IsFurther}
 use Rattle.patr_parse.proofs.prediction.predict.Given as goal
 

@@ -1,5 +1,5 @@
 use Rattle.std.proofs.Common.{Ok, Err, IfOk}
-use Rattle.patr_parse.specs.Begun.{HasMark}
+use Rattle.patr_parse.proofs.Names.{HasMark}
 use Rattle.patr_parse.proofs.prediction.predict_category.Goals as goal
 
 pub returns-then-branch-clause-marked : goal.returns-then-branch-clause-marked

@@ -1,7 +1,6 @@
 use Rattle.std.proofs.Common.{◌≡◌, ◌<◌, ◌+◌, ◌∙◌, [], true, false, length, sym, ap, subst, arith, rules}
-use Rattle.patr_library.specs.Stored.{rules_of}
+use Rattle.patr_parse.proofs.Names.{rules_of, IsRoundAt}
 use Rattle.patr_parse.specs.Drafts.{drafts_of, is_stop}
-use Rattle.patr_parse.specs.Rounds.{IsRoundAt}
 use Rattle.patr_parse.proofs.Drafted.{not_false, not_true, round_begins, round_full, round_large, round_more}
 use Rattle.patr_parse.proofs.rounds.draft_all.Goals as goal
 

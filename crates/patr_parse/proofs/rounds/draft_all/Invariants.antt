@@ -1,5 +1,5 @@
 use Rattle.std.proofs.Common.{◌+◌}
-use Rattle.patr_parse.specs.Rounds.{IsRoundAt}
+use Rattle.patr_parse.proofs.Names.{IsRoundAt}
 use Rattle.patr_parse.proofs.rounds.draft_all.Given as goal
 
 abbrev pub invariant-loop-task : goal.invariant-loop-task

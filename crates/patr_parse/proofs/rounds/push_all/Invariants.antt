@@ -1,7 +1,6 @@
 use Rattle.std.proofs.Common.{◌≡◌, ◌++◌, List, length}
 use Rattle.std.specs.Vec.Iter.{into_iter_items, into_iter_len}
-use Rattle.patr_arena.specs.Sentences.{sentence_of}
-use Rattle.patr_parse.specs.Drafts.{ArePlaced}
+use Rattle.patr_parse.proofs.Names.{sentence_of, ArePlaced}
 use Rattle.patr_parse.proofs.rounds.push_all.Given as goal
 
 abbrev pub invariant-loop-draft : goal.invariant-loop-draft

@@ -1,10 +1,8 @@
 use Rattle.std.proofs.Common.{◌≡◌, ◌+◌, ◌++◌, ◌∷◌, [], ℕ, suc, List, map, take, get_or, Bor, sym, ap, ◌∙◌, subst, arith}
 use Rattle.std.specs.List.{AllByRecursion}
 use Rattle.std.proofs.lemmas.List.{length-map}
-use Rattle.patr_text.specs.declared.symbols.Id.{Id}
-use Rattle.patr_arena.specs.Paths.{ids}
+use Rattle.patr_parse.proofs.Names.{Id, ids, AreKnownTo}
 use Rattle.patr_parse.specs.Sentences.{AreNumbers, IsKnown, IsFirstUnknown}
-use Rattle.patr_parse.specs.Words.{AreKnownTo}
 use Rattle.patr_parse.proofs.KnownWords.{known_more, first_unknown, word_at, take_words}
 use Rattle.patr_parse.proofs.sentence.known_words.Goals as goal
 

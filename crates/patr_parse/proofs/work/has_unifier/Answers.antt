@@ -1,7 +1,5 @@
 use Rattle.std.proofs.Common.{refl, subst}
-use Rattle.patr_arena.specs.Shown.{number_of, value_of}
-use Rattle.patr_arena.proofs.Addresses.{value_below}
-use Rattle.patr_arena.proofs.Showing.{held_below}
+use Rattle.patr_parse.proofs.Names.{number_of, value_of, value_below, held_below}
 use Rattle.patr_scratch.specs.Contents.{HasRoom}
 use Rattle.patr_parse.proofs.Room.{decision_room}
 use Rattle.patr_parse.proofs.work.has_unifier.Goals as goal

@@ -1,10 +1,7 @@
 use Rattle.std.proofs.Common.{rules, arith, ◌≡◌, ◌≢◌, None, false, true, [], ◌∷◌, refl, sym, ap, ◌∙◌, subst}
-use Rattle.patr_model.specs.Structure.{Structure, Value, Node, at}
-use Rattle.patr_model.specs.Subsumption.{TakesBoth, IsUnifier}
-use Rattle.patr_arena.specs.Shown.{ValueIsHeld, number_of, value_of}
-use Rattle.patr_unify.specs.Deciding.{Counts}
-use Rattle.patr_library.specs.Stored.{rules_of}
-use Rattle.patr_parse.specs.Found.{daughters}
+use Rattle.patr_parse.proofs.Names.{Structure, Value, Node, IsUnifier, ValueIsHeld, number_of, value_of, Counts, rules_of, daughters}
+use Rattle.patr_model.specs.Structure.{at}
+use Rattle.patr_model.specs.Subsumption.{TakesBoth}
 use Rattle.patr_parse.proofs.Joins.{facts, partners_near}
 use Rattle.patr_parse.proofs.work.RoundWork.combine.Goals as goal
 

@@ -1,13 +1,9 @@
 use Rattle.std.proofs.Common.{◌≡◌, ◌<◌, ◌+◌, [], ◌∙◌, ℕ, cond, true, false, length, take, get_or, sym, ap, subst, arith, rules}
 use Rattle.std.proofs.lemmas.List.{take_more}
 use Rattle.std.proofs.Math.Seq.{take-length}
-use Rattle.patr_model.specs.Derivation.{Extend, size}
-use Rattle.patr_model.specs.Solution.{IsSolvable}
-use Rattle.patr_chart.specs.Charted.{partners, tree}
-use Rattle.patr_chart.proofs.Trees.{get_below}
-use Rattle.patr_library.specs.Stored.{rules_of}
-use Rattle.patr_parse.specs.Drafts.{AreMade, IsDecided}
-use Rattle.patr_parse.specs.Tasks.{ArePartners, Has, pair}
+use Rattle.patr_parse.proofs.Names.{Extend, size, IsSolvable, partners, get_below, rules_of, AreMade, ArePartners, Has, pair}
+use Rattle.patr_chart.specs.Charted.{tree}
+use Rattle.patr_parse.specs.Drafts.{IsDecided}
 use Rattle.patr_parse.proofs.Numbers.{Rising, has_at, has_taken, not_before}
 use Rattle.patr_parse.proofs.Paired.{partners_few, task_gave}
 use Rattle.patr_parse.proofs.Pairs.{is_pair, pair_ordered}

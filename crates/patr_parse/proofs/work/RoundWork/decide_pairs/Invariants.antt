@@ -1,6 +1,5 @@
 use Rattle.std.proofs.Common.{◌≡◌, ◌+◌, take}
-use Rattle.patr_library.specs.Stored.{rules_of}
-use Rattle.patr_parse.specs.Drafts.{AreMade}
+use Rattle.patr_parse.proofs.Names.{rules_of, AreMade}
 use Rattle.patr_parse.proofs.work.RoundWork.decide_pairs.Given as goal
 
 abbrev pub invariant-loop-other : goal.invariant-loop-other
