@@ -1,6 +1,7 @@
 //! Edges: derivations of parts of a sentence, complete or partial.
-ghost use Rattle.std.specs.Prelude.{◌≡◌};
-ghost use Rattle.patr_chart.specs.Edges.{is_passive};
+ghost use Rattle.std.specs.Prelude.{◌≡◌, false};
+ghost use Rattle.patr_chart.specs.Edges.{is_passive, kind_passive};
+ghost use Rattle.patr_chart.specs.Charted.{IsNext};
 
 use patr_arena::Value;
 
@@ -27,6 +28,42 @@ pub enum EdgeKind {
         /// How many daughters the variant has.
         slots: u32,
     },
+}
+
+impl EdgeKind {
+    /// Whether no daughter is missing.
+    pub fn is_passive(self) -> bool
+        ensures { result ≡ kind_passive self }
+    {
+        match self {
+            EdgeKind::Entry { .. } => true,
+            EdgeKind::Rule { seen, slots, .. } => seen >= slots,
+        }
+    }
+
+    /// The rule variant with one more daughter. Condition: a daughter is missing.
+    pub fn with_daughter(self) -> EdgeKind
+        requires { kind_passive self ≡ false }
+        ensures { IsNext self result }
+    {
+        let EdgeKind::Rule {
+            rule,
+            variant,
+            item,
+            seen,
+            slots,
+        } = self
+        else {
+            unreachable!()
+        };
+        EdgeKind::Rule {
+            rule,
+            variant,
+            item,
+            seen: seen + 1,
+            slots,
+        }
+    }
 }
 
 /// The two edges of which an edge was made, by their numbers.
@@ -64,9 +101,6 @@ impl Edge {
     pub fn is_passive(&self) -> bool
         ensures { result ≡ is_passive self.now }
     {
-        match self.kind {
-            EdgeKind::Entry { .. } => true,
-            EdgeKind::Rule { seen, slots, .. } => seen >= slots,
-        }
+        self.kind.is_passive()
     }
 }

@@ -5,28 +5,20 @@ use Rattle.std.specs.List.Sorted.{IsPermutation, IsSorted}
 use Rattle.std.proofs.lemmas.List.Elements.{All-from_recursion, recursion_from_All}
 use Rattle.std.proofs.lemmas.List.Sorted.{All-permutation, IsPermutation-sym, sum_by-IsPermutation}
 use Rattle.std.proofs.lemmas.List.Sums.{sum_by-cons}
-use Rattle.std.proofs.lemmas.Option.{slice_get_within}
-use Rattle.patr_lists.specs.Numbers.{places}
-use Rattle.patr_parse.proofs.Tasks.{trees_length}
-use Rattle.patr_lists.proofs.Alls.{all_weaker, all_of}
-use Rattle.patr_lists.proofs.Members.{one_place}
-use Rattle.patr_lists.specs.Members.{IsIn}
-use Rattle.patr_model.specs.Derivation.{Rules, Derivation, Begin, key}
-use Rattle.patr_model.specs.Chart.{IsChart, IsAnalysis}
+use Rattle.patr_parse.proofs.Names.{Rules, Derivation, Begin, IsChart, places, Shown, Edge, AreEdges, derivations, places_pass, passes_placed, get_below, Stored, keys, Analysis, AreSound, is_whole, HasKey, edge_of, AreAll}
+use Rattle.patr_model.specs.Derivation.{key}
+use Rattle.patr_model.specs.Chart.{IsIn, IsAnalysis}
 use Rattle.patr_model.specs.Laws.{StatesCategories}
 use Rattle.patr_model.specs.Solved.{solved}
 use Rattle.patr_model.proofs.Keys.{keys_tell}
 use Rattle.patr_model.proofs.Prediction.{prediction_drops_none}
-use Rattle.patr_arena.specs.Shown.{Shown}
-use Rattle.patr_chart.specs.declared.edge.Edge.{Edge}
-use Rattle.patr_chart.specs.Charted.{AreEdges, derivations, tree}
-use Rattle.patr_chart.proofs.Passing.{places_pass, passes_placed}
-use Rattle.patr_library.specs.Stored.{Stored, HasItems, keys}
-use Rattle.patr_parse.specs.declared.analyses.Analysis.{Analysis}
-use Rattle.patr_parse.specs.Found.{AreSound}
-use Rattle.patr_parse.specs.Analyses.{is_whole, HasKey, edge_of, AreAll}
+use Rattle.patr_chart.specs.Charted.{tree}
+use Rattle.patr_library.specs.Stored.{HasItems}
+use Rattle.patr_parse.proofs.Members.{all_of, weaker}
+use Rattle.patr_parse.proofs.Numbers.{one_number}
 use Rattle.patr_parse.proofs.Picked.{tally, times, places_once}
 use Rattle.patr_parse.proofs.Ordered.{analysis_cmp, adjacent, rises}
+use Rattle.patr_parse.proofs.Tasks.{trees_length}
 use Rattle.patr_parse.proofs.WholeEdges.{edge_of_tree, have_least, edge_is_analysis, analysis_passes}
 
 -- what holds of each, by the edges' numbers
@@ -78,7 +70,7 @@ module _ (g : Rules) (s : Stored) (items : HasItems g s.shown s.rules s.entries)
   told : (k l : ℕ) → IsGood k → IsGood l → key (tree es k) ≡ key (tree es l) → k ≡ l
   told k l h i e =
       let same = (keys_tell g ws (tree es k) (tree es l) [] [] h.1.derivation i.1.derivation h.1.complete i.1.complete (h.1.start ∙ sym i.1.start) (ap (λ x. x ++ []) e)).0 in
-      one_place (derivations es) (Begin 0 0 0) chart.once k l (omega (arith, trees_length es, h.0)) (omega (arith, trees_length es, i.0)) same
+      one_number (derivations es) (Begin 0 0 0) chart.once k l (omega (arith, trees_length es, h.0)) (omega (arith, trees_length es, i.0)) same
 
   abbrev found : List ℕ
   found = places (is_whole v (length ws) g.start) 0 es
@@ -87,7 +79,7 @@ module _ (g : Rules) (s : Stored) (items : HasItems g s.shown s.rules s.entries)
   is_good k h =
       let p = places_pass (is_whole v (length ws) g.start) 0 es k h in
       let there : slice_get es k ≡ Some p.1 = ap (slice_get es) (omega (arith, p.2)) ∙ p.3 in
-      (slice_get_within es k p.1 there, edge_is_analysis g s items v words es all sound keys.cat ws chart refl k p.1 there p.4)
+      (get_below es k p.1 there, edge_is_analysis g s items v words es all sound keys.cat ws chart refl k p.1 there p.4)
 
   has_every : StatesCategories g keys.cat → (t : Derivation) → IsAnalysis (solved g keys.cat) g ws t → (k : ℕ) × Contains found k × (tree es k ≡ t)
   has_every states t h =
@@ -101,9 +93,9 @@ module _ (g : Rules) (s : Stored) (items : HasItems g s.shown s.rules s.entries)
   are_all states xs ys is has_keys moved sorted =
       let good = of_edges IsGood ys (moved_all xs ys moved (λ a. IsGood (edge_of a)) (by_edge IsGood xs (subst (AllByRecursion IsGood) (sym is) (all_of IsGood found is_good)))) in
       record {
-        within = all_weaker IsGood (λ k. suc k ≤ length es) (λ k h. h.0) (map edge_of ys) good;
+        within = weaker IsGood (λ k. suc k ≤ length es) (λ k h. h.0) (map edge_of ys) good;
         rises = rises es IsGood told ys (adjacent ys sorted) (moved_all xs ys moved (HasKey es) has_keys) good (λ n. omega (arith, moved_times xs ys moved n, ap (times n) is, places_once (is_whole v (length ws) g.start) n 0 es));
-        each = of_trees es (IsAnalysis (solved g keys.cat) g ws) (map edge_of ys) (all_weaker IsGood (λ k. IsAnalysis (solved g keys.cat) g ws (tree es k)) (λ k h. h.1) (map edge_of ys) good);
+        each = of_trees es (IsAnalysis (solved g keys.cat) g ws) (map edge_of ys) (weaker IsGood (λ k. IsAnalysis (solved g keys.cat) g ws (tree es k)) (λ k h. h.1) (map edge_of ys) good);
         every = λ t h. let k = has_every states t h in
             subst (λ u. IsIn (map (tree es) (map edge_of ys)) u) k.2 (moved_tree es xs ys moved k.0 (subst (λ ns. Contains ns k.0) (sym is) k.1));
       }

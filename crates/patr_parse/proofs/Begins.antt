@@ -1,15 +1,8 @@
 -- What the first edges come to, under a limit.
-use Rattle.std.proofs.Common.{◌≡◌, ℕ, true, false, List, [], ◌++◌, length, length-append, sym, ap, arith, subst}
-use Rattle.patr_model.specs.Chart.{HasMoreThan}
-use Rattle.patr_arena.specs.Shown.{Shown}
-use Rattle.patr_chart.specs.declared.edge.Edge.{Edge}
-use Rattle.patr_library.specs.Stored.{Stored, IsStored, rules_of}
-use Rattle.patr_parse.specs.declared.prediction.Mark.{Mark}
-use Rattle.patr_parse.specs.Found.{AreSound}
-use Rattle.patr_parse.specs.Tasks.{judge}
-use Rattle.patr_parse.specs.Standing.{Stands}
-use Rattle.patr_parse.specs.Begun.{leaves_from, begun_at, HasMark, ArePushed}
-use Rattle.patr_parse.specs.Predicting.{ArePredicted, IsMarked}
+use Rattle.std.proofs.Common.{◌≡◌, ℕ, true, false, ◌≤◌, List, [], ◌++◌, length, length-append, sym, ap, arith, subst}
+use Rattle.patr_parse.proofs.Names.{HasMoreThan, Shown, Edge, Stored, IsStored, rules_of, AreSound, judge, Stands, leaves_from, begun_at, HasMark, ArePushed, ArePredicted, IsMarked}
+use Rattle.patr_parse.specs.declared.prediction.Prediction.{Prediction}
+use Rattle.patr_parse.specs.Predicting.{IsInitialized}
 use Rattle.patr_parse.proofs.Added.{sound_new}
 use Rattle.patr_parse.proofs.Pushed.{Behind, behind_append, behind_length}
 use Rattle.patr_parse.proofs.First.{first_trees, first_passed, stands_first, first_predicted}
@@ -32,11 +25,13 @@ module _ (s : Stored) (stored : IsStored s) (ws : List ℕ) (v : Shown) (limit :
           (subst (λ x. Behind (rules_of s) s v old (leaves_from s 0 ws ++ begun_at s x 0) new) is
           (behind_append (rules_of s) s v old mid (leaves_from s 0 ws) (begun_at s c 0) rules.0 new (words.0, words.1, words.2) rules.1 rules.2))
 
-      pub begin_stands : Stands (judge s) (rules_of s) ws new 0 []
-      begin_stands = subst (λ l. Stands (judge s) (rules_of s) ws l 0 []) (sym both.1) (stands_first s stored ws v both.0 both.2)
-
-      pub begin_sound : AreSound (rules_of s) s v new
-      begin_sound = subst (λ l. AreSound (rules_of s) s v l) (sym both.1) (sound_new (rules_of s) s v [] both.0 (first_trees s stored ws) both.2 (λ k e h. cc))
-
-      pub begin_predicted : (marks : List Mark) → HasMark [] marks (rules_of s).start 0 → ArePredicted s ws (IsMarked marks) 0 new
-      begin_predicted marks h = subst (λ l. ArePredicted s ws (IsMarked marks) 0 l) (sym both.1) (first_predicted s stored ws v both.0 both.2 marks h)
+      -- the first edges are there
+      pub initialized : length new ≤ limit → (p : Prediction) → p.seen ≡ 0 → HasMark [] p.marks.keys (rules_of s).start 0 → IsInitialized s ws v limit p new
+      initialized few p seen h =
+          let back : [] ++ both.0 ≡ new = sym both.1 in
+          record {
+            stands = subst (λ l. Stands (judge s) (rules_of s) ws l 0 []) back (stands_first s stored ws v both.0 both.2);
+            sound = subst (λ l. AreSound (rules_of s) s v l) back (sound_new (rules_of s) s v [] both.0 (first_trees s stored ws) both.2 (λ k e h. cc));
+            predicted = subst (λ l. ArePredicted s ws (IsMarked p.marks.keys) p.seen l) back (subst (λ n. ArePredicted s ws (IsMarked p.marks.keys) n both.0) (sym seen) (first_predicted s stored ws v both.0 both.2 p.marks.keys h));
+            few = few;
+          }

@@ -1,33 +1,14 @@
 -- What is promised of edges stays true where more nodes and more edges come.
-use Rattle.std.proofs.Common.{◌≡◌, inl, inr, ℕ, zero, suc, ◌+◌, List, [], ◌∷◌, ◌++◌, length, map, get_or, Option, Some, None, slice_get, refl, sym, ap, ◌∙◌, arith, subst, append-nil}
+use Rattle.std.proofs.Common.{◌≡◌, ◌⊎◌, inl, inr, ℕ, zero, suc, ◌+◌, List, [], ◌∷◌, ◌++◌, length, map, get_or, Option, Some, None, slice_get, refl, sym, ap, ◌∙◌, arith, subst, append-nil, append_assoc}
 use Rattle.std.proofs.lemmas.List.{get_or_append_left, get_or-append-add}
-use Rattle.std.proofs.lemmas.Option.{slice_get_within}
-use Rattle.patr_lists.proofs.Places.{get_left, get_parts}
-use Rattle.patr_model.specs.Structure.{Value, Node, Structure, arc, IsValue, IsStructure}
-use Rattle.patr_model.specs.Subsumption.{IsUnifier}
-use Rattle.patr_model.specs.Settled.{Images, Keeps}
-use Rattle.patr_model.specs.Derivation.{Rules, Derivation, Begin}
-use Rattle.patr_model.specs.Solution.{IsLeastValue}
-use Rattle.patr_model.proofs.Maps.{some_inj, arc_of_longer}
+use Rattle.patr_parse.proofs.Names.{Value, Node, Structure, arc, IsValue, IsStructure, IsUnifier, Images, Keeps, Rules, Derivation, Begin, IsLeastValue, some_inj, arc_of_longer, Shown, IsShown, ValueIsHeld, value_of, Extends, held_below, still_held, same_number_held, value_below, Counts, EdgeKind, Rule, Back, Edge, derived, derivations, get_below, from_length, Stored, Bounds, root_of, IsJoined, HasSource, IsSoundEdge, AreSound, made_by, ItemsAreHeld, IsReady, AreWaiting}
 use Rattle.patr_model.proofs.Longer.{longer_keeps}
 use Rattle.patr_arena.specs.declared.value.Value as its
 use Rattle.patr_arena.specs.declared.value.Value.TheVariants as value
-use Rattle.patr_arena.specs.Shown.{Shown, IsShown, ValueIsHeld, value_of}
-use Rattle.patr_arena.specs.Blocks.{Extends}
-use Rattle.patr_arena.proofs.Showing.{held_below, still_held, same_number_held}
-use Rattle.patr_arena.proofs.Addresses.{value_below}
-use Rattle.patr_unify.specs.Deciding.{Counts}
-use Rattle.patr_chart.specs.declared.edge.EdgeKind.{EdgeKind}
-use Rattle.patr_chart.specs.declared.edge.EdgeKind.TheVariants.{Entry, Rule}
-use Rattle.patr_chart.specs.declared.edge.Back.{Back}
-use Rattle.patr_chart.specs.declared.edge.Edge.{Edge}
-use Rattle.patr_chart.specs.Charted.{derived, derivations, tree}
-use Rattle.patr_chart.proofs.Trees.{from_length}
-use Rattle.patr_library.specs.Stored.{Stored, Bounds, root_of}
-use Rattle.patr_parse.specs.Found.{IsRootOf, IsItemRoot, IsJoined, HasSource, IsSoundEdge, AreSound}
-use Rattle.patr_parse.specs.Tasks.{made_by, ItemsAreHeld, IsReady, AreWaiting}
-use Rattle.patr_parse.proofs.Longer.{keeps_longer}
-use Rattle.patr_parse.proofs.Counted.{counts_less}
+use Rattle.patr_chart.specs.declared.edge.EdgeKind.TheVariants.{Entry}
+use Rattle.patr_chart.specs.Charted.{tree}
+use Rattle.patr_parse.specs.Found.{IsRootOf, IsItemRoot}
+use Rattle.patr_parse.proofs.Moved.{counts_longer, keeps_longer}
 
 -- ---- more nodes
 
@@ -50,14 +31,14 @@ module _ (v w : Shown) (sv : IsShown v) (sw : IsShown w) (e : Extends v w) where
 
   pub bounds_still : (x : its.Value) → ValueIsHeld v x → (nodes arcs : ℕ) → Bounds v (value_of v x) nodes arcs → Bounds w (value_of w x) nodes arcs
   bounds_still x h nodes arcs b = λ n a c.
-      b n a (counts_less v.structure e.structure.0 (value_of v x) sv.structure (value_below v sv x h) n a
+      b n a (counts_longer v.structure e.structure.0 sv.structure long (value_of v x) (value_below v sv x h) n a
       (subst (λ S. Counts S (value_of v x) n a) e.structure.1 (subst (λ y. Counts w.structure y n a) (same_value x h) c)))
 
   pub root_still : (f : Edge) → ValueIsHeld v f.root → (u : Value) → IsValue v.structure u → IsRootOf v f u → IsRootOf w f u
   root_still f h u hu (inl r) = inl (r.0, same_value f.root h ∙ r.1)
   root_still f h u hu (inr r) = inr (r.0, ap (λ S. arc S u 0) e.structure.1 ∙ (arc_of_longer v.structure e.structure.0 u hu 0 ∙ (r.1 ∙ ap (λ y. Some y) (sym (same_value f.root h)))))
 
-  back : (l r : Value) (a p : its.Value) → ValueIsHeld v a → ValueIsHeld v p → value_of v a ≡ l → value_of v p ≡ r
+  pub back : (l r : Value) (a p : its.Value) → ValueIsHeld v a → ValueIsHeld v p → value_of v a ≡ l → value_of v p ≡ r
       → (P : Structure → Value → Value → Type 0) → P (v.structure ++ e.structure.0) l r → P w.structure (value_of w a) (value_of w p)
   back l r a p ha hp is_l is_r P h =
       subst (λ G. P G (value_of w a) (value_of w p)) (sym e.structure.1)
@@ -77,7 +58,7 @@ module _ (v w : Shown) (sv : IsShown v) (sw : IsShown w) (e : Extends v w) where
         unifier = back l r a.root p.root ha hp refl refl (λ G x y. IsUnifier G x (slot ∷ []) G y G u)
             (longer_keeps.unifier S N l r u (slot ∷ []) sv.structure long hl hr j.unifier);
         keeps = back l r a.root p.root ha hp refl refl (λ G x y. (i : Images G x (slot ∷ []) G y G u) → Keeps G x (slot ∷ []) G y G u i)
-            (λ i. keeps_longer S N S N l r u (slot ∷ []) sv.structure sv.structure hl hr j.unifier.takes.held i j.keeps);
+            (λ i. keeps_longer S N sv.structure long l r u (slot ∷ []) hl hr j.unifier.takes.held i j.keeps);
         root = root_still f hf u j.unifier.takes.held j.root;
       }
 
@@ -125,7 +106,23 @@ module _ (v w : Shown) (sv : IsShown v) (sw : IsShown w) (e : Extends v w) where
 pub extends_same : (v : Shown) → Extends v v
 extends_same v = record { sizes = ([], sym (append-nil v.sizes)); structure = ([], sym (append-nil v.structure)) }
 
+pub extends_on : (u v w : Shown) → Extends u v → Extends v w → Extends u w
+extends_on u v w e f = record {
+  sizes = (e.sizes.0 ++ f.sizes.0, f.sizes.1 ∙ (ap (λ l. l ++ f.sizes.0) e.sizes.1 ∙ append_assoc u.sizes e.sizes.0 f.sizes.0));
+  structure = (e.structure.0 ++ f.structure.0, f.structure.1 ∙ (ap (λ l. l ++ f.structure.0) e.structure.1 ∙ append_assoc u.structure e.structure.0 f.structure.0));
+}
+
 -- ---- more edges
+
+pub get_parts : (es ys : List Edge) (k : ℕ) (e : Edge) → slice_get (es ++ ys) k ≡ Some e → (slice_get es k ≡ Some e) ⊎ ((n : ℕ) × (k ≡ length es + n) × (slice_get ys n ≡ Some e))
+get_parts [] ys k e h = inr (k, omega arith, h)
+get_parts (x ∷ es) ys zero e h = inl h
+get_parts (x ∷ es) ys (suc k) e h = elim (get_parts es ys k e h) as (λ _. (slice_get es k ≡ Some e) ⊎ ((n : ℕ) × (suc k ≡ length (x ∷ es) + n) × (slice_get ys n ≡ Some e))) [ inl q ↦ inl q | inr q ↦ inr (q.0, (let is = q.1 in omega (arith, is)), q.2) ]
+
+pub get_still : (es ys : List Edge) (k : ℕ) (e : Edge) → slice_get es k ≡ Some e → slice_get (es ++ ys) k ≡ Some e
+get_still [] ys k e h = cc
+get_still (x ∷ es) ys zero e h = h
+get_still (x ∷ es) ys (suc k) e h = get_still es ys k e h
 
 made_at : (f : Edge → Derivation) (ys : List Edge) (n : ℕ) (e : Edge) (d : Derivation) → slice_get ys n ≡ Some e → get_or (map f ys) n d ≡ f e
 made_at f [] n e d h = cc
@@ -134,7 +131,7 @@ made_at f (y ∷ ys) (suc n) e d h = made_at f ys n e d h
 
 source_more : (s : Stored) (v : Shown) (es ys : List Edge) (f : Edge) (o : Option Back) → HasSource s v es f o → HasSource s v (es ++ ys) f o
 source_more s v es ys f None c = c
-source_more s v es ys f (Some b) c = (c.0, c.1, get_left es ys b.active c.0 c.2, get_left es ys b.passive c.1 c.3, c.4)
+source_more s v es ys f (Some b) c = (c.0, c.1, get_still es ys b.active c.0 c.2, get_still es ys b.passive c.1 c.3, c.4)
 
 pub sound_more : (g : Rules) (s : Stored) (v : Shown) (es ys : List Edge) (t : Derivation) (f : Edge) → IsSoundEdge g s v es t f → IsSoundEdge g s v (es ++ ys) t f
 sound_more g s v es ys t f h = record { held = h.held; value = h.value; bounds = h.bounds; sized = h.sized; item = h.item; source = source_more s v es ys f f.back h.source }
@@ -142,7 +139,7 @@ sound_more g s v es ys t f h = record { held = h.held; value = h.value; bounds =
 -- edges behind others
 pub sound_pushed : (g : Rules) (s : Stored) (v : Shown) (es ys : List Edge) → derivations (es ++ ys) ≡ derivations es ++ made_by es ys → AreSound g s v es → AreWaiting g s v es ys → AreSound g s v (es ++ ys)
 sound_pushed g s v es ys is sound waiting = λ k f at. elim (get_parts es ys k f at) [
-  | inl old ↦ (let same : tree (es ++ ys) k ≡ tree es k = ap (λ l. get_or l k (Begin 0 0 0)) is ∙ get_or_append_left (derivations es) (made_by es ys) (Begin 0 0 0) k (omega (arith, slice_get_within es k f old, from_length [] es)) in
+  | inl old ↦ (let same : tree (es ++ ys) k ≡ tree es k = ap (λ l. get_or l k (Begin 0 0 0)) is ∙ get_or_append_left (derivations es) (made_by es ys) (Begin 0 0 0) k (omega (arith, get_below es k f old, from_length [] es)) in
       subst (λ t. IsSoundEdge g s v (es ++ ys) t f) (sym same) (sound_more g s v es ys (tree es k) f (sound k f old)))
   | inr new ↦ (let place : k ≡ length (derivations es) + new.0 = (let q = new.1 in omega (arith, q, from_length [] es)) in
       let same : tree (es ++ ys) k ≡ derived (derivations es) f =

@@ -1,40 +1,22 @@
 -- The edges of a library's items.
 use Rattle.std.proofs.Common.{◌≡◌, ℕ, suc, ◌+◌, ◌<◌, Bool, true, false, not, ltb, ltb-true, ltb-false, [], ◌++◌, length, Some, None, slice_get, refl, sym, ap, ◌∙◌, arith, subst}
-use Rattle.patr_model.specs.Structure.{Value, Node, arc, IsValue, IsStructure}
-use Rattle.patr_model.specs.Derivation.{Rules, Derivation, Begin, Leaf}
-use Rattle.patr_model.specs.Solution.{IsLeastValue}
-use Rattle.patr_model.proofs.Maps.{some_inj, arc_of_longer}
-use Rattle.patr_model.proofs.Variants.{variant_steps}
+use Rattle.patr_parse.proofs.Names.{Value, Node, arc, IsValue, IsStructure, Rules, Derivation, Begin, Leaf, IsLeastValue, some_inj, arc_of_longer, variant_steps, Shown, IsShown, ValueIsHeld, value_of, Extends, held_below, still_held, same_number_held, Counts, EdgeKind, Rule, Edge, kind_passive, RuleItem, EntryItem, Stored, IsStored, IsRuleItem, Bounds, rules_of, root_of, IsSoundEdge, HasMother, IsRootBy, ItemsAreHeld, IsAloneEdge}
 use Rattle.patr_model.proofs.Longer.{longer_keeps}
 use Rattle.patr_arena.specs.declared.value.Value as its
 use Rattle.patr_arena.specs.declared.value.Value.TheVariants as value
-use Rattle.patr_arena.specs.Shown.{Shown, IsShown, ValueIsHeld, value_of}
-use Rattle.patr_arena.specs.Blocks.{Extends}
-use Rattle.patr_arena.proofs.Showing.{held_below, still_held, same_number_held}
-use Rattle.patr_unify.specs.Deciding.{Counts}
-use Rattle.patr_chart.specs.declared.edge.EdgeKind.{EdgeKind}
-use Rattle.patr_chart.specs.declared.edge.EdgeKind.TheVariants.{Entry, Rule}
-use Rattle.patr_chart.specs.declared.edge.Edge.{Edge}
-use Rattle.patr_chart.specs.Edges.{kind_passive}
-use Rattle.patr_library.specs.declared.item.RuleItem.{RuleItem}
-use Rattle.patr_library.specs.declared.item.EntryItem.{EntryItem}
-use Rattle.patr_library.specs.Stored.{Stored, IsStored, IsRuleItem, IsEntryItem, Bounds, rules_of, root_of}
-use Rattle.patr_parse.specs.Found.{IsSoundEdge}
-use Rattle.patr_parse.specs.Joining.{HasMother, IsRootBy}
-use Rattle.patr_parse.specs.Tasks.{ItemsAreHeld}
-use Rattle.patr_parse.specs.Begun.{begun_of, begun, leaf_of, leaf, IsAloneEdge}
+use Rattle.patr_chart.specs.declared.edge.EdgeKind.TheVariants.{Entry}
+use Rattle.patr_library.specs.Stored.{IsEntryItem}
+use Rattle.patr_parse.specs.Begun.{begun_of, begun, leaf_of, leaf}
 use Rattle.patr_parse.proofs.Counted.{counts_below}
 use Rattle.patr_parse.proofs.Reached.{counts_there}
 use Rattle.patr_parse.proofs.Growing.{value_still, least_still, bounds_still}
 use Rattle.patr_parse.proofs.Joins.{root_of_edge, slot_reached}
 use Rattle.patr_parse.proofs.Items.{rule_item, entry_item}
+use Rattle.patr_parse.proofs.Ready.{items_there}
 
 module _ (s : Stored) (stored : IsStored s) (v : Shown) (base : IsShown s.shown) (sv : IsShown v) (e : Extends s.shown v) where
   abbrev g : Rules
   g = rules_of s
-
-  pub items_held : ItemsAreHeld s v
-  items_held n item at = still_held s.shown v e item.root.block item.root.offset (rule_item s stored n item at).held
 
   -- ---- rules
 
@@ -61,7 +43,7 @@ module _ (s : Stored) (stored : IsStored s) (v : Shown) (base : IsShown s.shown)
     old_value = held_below s.shown base item.root.block item.root.offset is.held
 
     new_value : IsValue v.structure new
-    new_value = held_below v sv item.root.block item.root.offset (items_held n item at_n)
+    new_value = held_below v sv item.root.block item.root.offset (items_there s stored v e n item at_n)
 
     longer : (m : Value) → IsLeastValue g tree s.shown.structure m → IsLeastValue g tree v.structure m
     longer m l = subst (λ S. IsLeastValue g tree S m) (sym e.structure.1) (longer_keeps.least g tree s.shown.structure e.structure.0 m (subst IsStructure e.structure.1 sv.structure) l)

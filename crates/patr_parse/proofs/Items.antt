@@ -1,60 +1,29 @@
 -- The items of a library, as derivations: each stands for one that has a solution.
 use Rattle.std.proofs.Common.{◌≡◌, ◌⊎◌, inl, inr, ℕ, zero, suc, ◌+◌, ◌<◌, ◌≤◌, Bool, true, false, nat_lt, ltb-true, ltb-false, List, [], ◌∷◌, length, map, Some, slice_get, refl, sym, ap, ◌∙◌, arith, subst, zero-add, eqb-true, eq-eqb}
-use Rattle.patr_lists.specs.Numbers.{places}
-use Rattle.patr_lists.proofs.Members.{once_append, in_cases, in_right, in_left, contains_in, in_contains}
-use Rattle.patr_lists.proofs.Alls.{all_at}
-use Rattle.patr_lists.specs.Members.{NoRepeats, IsIn}
-use Rattle.patr_model.specs.Structure.{Value, Structure}
-use Rattle.patr_model.specs.Derivation.{Rules, Derivation, Leaf, Begin, start}
-use Rattle.patr_model.specs.Solution.{IsSolvable, IsLeastValue}
-use Rattle.patr_model.specs.Rounds.{IsNoPair}
-use Rattle.patr_model.proofs.Maps.{some_inj}
-use Rattle.patr_model.proofs.Variants.{variant_steps}
-use Rattle.patr_chart.proofs.Passing.{places_pass, passes_placed, places_rise}
-use Rattle.patr_library.specs.declared.item.RuleItem.{RuleItem}
-use Rattle.patr_library.specs.declared.item.EntryItem.{EntryItem}
-use Rattle.patr_library.specs.Stored.{Stored, Rises, IsStored, IsRuleItem, IsEntryItem, rules_of, root_of, is_of_mother, is_of_word}
-use Rattle.patr_parse.specs.Begun.{begun_of, begun, leaf_of, leaf, begun_at, leaves_at, leaves_from}
-use Rattle.patr_parse.proofs.Numbers.{Rising, rising_of}
+use Rattle.patr_parse.proofs.Names.{Value, Structure, Rules, Derivation, Leaf, Begin, IsSolvable, IsLeastValue, EachOnce, IsNoPair, places, some_inj, in_either, variant_steps, places_pass, passes_placed, RuleItem, EntryItem, Stored, IsStored, IsRuleItem, rules_of, root_of, is_of_word, Has, begun_at, leaves_at, leaves_from}
+use Rattle.patr_model.specs.Derivation.{start}
+use Rattle.patr_model.specs.Chart.{IsIn}
+use Rattle.patr_model.proofs.Members.{all_at}
+use Rattle.patr_model.proofs.Rounds.{in_left, in_right, once_append}
+use Rattle.patr_chart.proofs.Passing.{places_rise}
+use Rattle.patr_library.specs.Stored.{Rises, IsEntryItem, is_of_mother}
+use Rattle.patr_parse.specs.Begun.{begun_of, begun, leaf_of, leaf}
+use Rattle.patr_parse.proofs.Numbers.{Rising, rising_of, has_contains, contains_has, in_map, map_in, once_map}
 
 -- ---- the members of a list that pass a test
 
 module _ {X : Type 0} (test : X → Bool) (xs : List X) where
-  pub placed_is : (n : ℕ) → IsIn (places test 0 xs) n → (x : X) × (slice_get xs n ≡ Some x) × (test x ≡ true)
+  pub placed_is : (n : ℕ) → Has (places test 0 xs) n → (x : X) × (slice_get xs n ≡ Some x) × (test x ≡ true)
   placed_is n h =
-      let p = places_pass test 0 xs n (in_contains (places test 0 xs) n h) in
+      let p = places_pass test 0 xs n (has_contains (places test 0 xs) n h) in
       let same : p.0 ≡ n = sym (p.2 ∙ zero-add p.0) in
       (p.1, ap (λ k. slice_get xs k) (sym same) ∙ p.3, p.4)
 
-  pub is_placed : (n : ℕ) (x : X) → slice_get xs n ≡ Some x → test x ≡ true → IsIn (places test 0 xs) n
-  is_placed n x at t = subst (λ k. IsIn (places test 0 xs) k) (zero-add n) (contains_in (places test 0 xs) (0 + n) (passes_placed test 0 xs n x at t))
+  pub is_placed : (n : ℕ) (x : X) → slice_get xs n ≡ Some x → test x ≡ true → Has (places test 0 xs) n
+  is_placed n x at t = subst (λ k. Has (places test 0 xs) k) (zero-add n) (contains_has (places test 0 xs) (0 + n) (passes_placed test 0 xs n x at t))
 
   pub placed_rise : Rising 0 (places test 0 xs)
   placed_rise = rising_of 0 (places test 0 xs) (λ h. omega arith) (places_rise test 0 xs)
-
-pub above : (k : ℕ) (ns : List ℕ) (n : ℕ) → Rising k ns → IsIn ns n → k ≤ n
-above k [] n r h = absurd h
-above k (m ∷ ns) n r (inl q) = omega (arith, r.0, q)
-above k (m ∷ ns) n r (inr h) = omega (arith, r.0, above (suc m) ns n r.1 h)
-
--- the derivations of some numbers
-module _ (f : ℕ → Derivation) where
-  pub in_map : (ns : List ℕ) (t : Derivation) → IsIn (map f ns) t → (n : ℕ) × IsIn ns n × (f n ≡ t)
-  in_map [] t h = absurd h
-  in_map (n ∷ ns) t (inl q) = (n, inl refl, q)
-  in_map (n ∷ ns) t (inr h) = let r = in_map ns t h in (r.0, inr r.1, r.2)
-
-  pub map_in : (ns : List ℕ) (n : ℕ) → IsIn ns n → IsIn (map f ns) (f n)
-  map_in [] n h = absurd h
-  map_in (m ∷ ns) n (inl q) = inl (ap f q)
-  map_in (m ∷ ns) n (inr h) = inr (map_in ns n h)
-
-  pub once_map : (k : ℕ) (ns : List ℕ) → ((m n : ℕ) → IsIn ns m → IsIn ns n → f m ≡ f n → m ≡ n) → Rising k ns → NoRepeats (map f ns)
-  once_map k [] one r = tt
-  once_map k (n ∷ ns) one r = (
-    (λ h. (let a = in_map ns (f n) h in let same = one a.0 n (inr a.1) (inl refl) a.2 in omega (arith, above (suc n) ns a.0 r.1 a.1, same))),
-    once_map (suc n) ns (λ i j hi hj q. one i j (inr hi) (inr hj) q) r.1,
-  )
 
 -- ---- pairs that rise differ
 
@@ -138,7 +107,7 @@ module _ (s : Stored) (stored : IsStored s) where
     pub mother : item.mother.0 ≡ c
     pub is : t ≡ Begin item.rule item.variant i
 
-  begun_number : (c i n : ℕ) → IsIn (places (is_of_mother c) 0 s.rules) n → IsBegun c i (begun s i n)
+  begun_number : (c i n : ℕ) → Has (places (is_of_mother c) 0 s.rules) n → IsBegun c i (begun s i n)
   begun_number c i n h =
       let p = placed_is (is_of_mother c) s.rules n h in
       record { number = n; item = p.0; there = p.1; mother = eqb-true p.0.mother.0 c p.2; is = ap (λ o. begun_of o i) p.1 }
@@ -151,7 +120,7 @@ module _ (s : Stored) (stored : IsStored s) where
       subst (λ o. IsIn (begun_at s c i) (begun_of o i)) at
       (map_in (begun s i) (places (is_of_mother c) 0 s.rules) n (is_placed (is_of_mother c) s.rules n item at (eq-eqb item.mother.0 c q)))
 
-  pub once_begun : (c i : ℕ) → NoRepeats (begun_at s c i)
+  pub once_begun : (c i : ℕ) → EachOnce (begun_at s c i)
   unfolding begun_number placed_is
   once_begun c i = once_map (begun s i) 0 (places (is_of_mother c) 0 s.rules) (λ m n hm hn q.
       (let a = begun_number c i m hm in
@@ -165,7 +134,7 @@ module _ (s : Stored) (stored : IsStored s) where
       same_begin : (r k q l i : ℕ) → Begin r k i ≡ Begin q l i → (r ≡ q) × (k ≡ l)
       same_begin r k q l i e = (cc, cc)
 
-      placed_there : (c i n : ℕ) (h : IsIn (places (is_of_mother c) 0 s.rules) n) → slice_get s.rules n ≡ Some (begun_number c i n h).item
+      placed_there : (c i n : ℕ) (h : Has (places (is_of_mother c) 0 s.rules) n) → slice_get s.rules n ≡ Some (begun_number c i n h).item
       placed_there c i n h = (placed_is (is_of_mother c) s.rules n h).1
 
   pub no_pair_begun : (c i : ℕ) (t : Derivation) → IsIn (begun_at s c i) t → IsNoPair t
@@ -179,7 +148,7 @@ module _ (s : Stored) (stored : IsStored s) where
     pub word : is_of_word s.lexicon w item ≡ true
     pub is : t ≡ Leaf item.entry item.variant i (suc i)
 
-  leaf_number : (w i n : ℕ) → IsIn (places (is_of_word s.lexicon w) 0 s.entries) n → IsLeaf w i (leaf s i n)
+  leaf_number : (w i n : ℕ) → Has (places (is_of_word s.lexicon w) 0 s.entries) n → IsLeaf w i (leaf s i n)
   leaf_number w i n h =
       let p = placed_is (is_of_word s.lexicon w) s.entries n h in
       record { number = n; item = p.0; there = p.1; word = p.2; is = ap (λ o. leaf_of o i) p.1 }
@@ -192,7 +161,7 @@ module _ (s : Stored) (stored : IsStored s) where
       subst (λ o. IsIn (leaves_at s w i) (leaf_of o i)) at
       (map_in (leaf s i) (places (is_of_word s.lexicon w) 0 s.entries) n (is_placed (is_of_word s.lexicon w) s.entries n item at t))
 
-  once_leaves : (w i : ℕ) → NoRepeats (leaves_at s w i)
+  once_leaves : (w i : ℕ) → EachOnce (leaves_at s w i)
   unfolding leaf_number placed_is
   once_leaves w i = once_map (leaf s i) 0 (places (is_of_word s.lexicon w) 0 s.entries) (λ m n hm hn q.
       (let a = leaf_number w i m hm in
@@ -215,7 +184,7 @@ module _ (s : Stored) (stored : IsStored s) where
 
   pub in_words : (i : ℕ) (ws : List ℕ) (t : Derivation) → IsIn (leaves_from s i ws) t → IsLeafOf i ws t
   in_words i [] t h = absurd h
-  in_words i (w ∷ ws) t h = go (in_words (suc i) ws t) (in_cases (leaves_at s w i) (leaves_from s (suc i) ws) t h)
+  in_words i (w ∷ ws) t h = go (in_words (suc i) ws t) (in_either (leaves_at s w i) (leaves_from s (suc i) ws) t h)
     where
       go : (IsIn (leaves_from s (suc i) ws) t → IsLeafOf (suc i) ws t) → IsIn (leaves_at s w i) t ⊎ IsIn (leaves_from s (suc i) ws) t → IsLeafOf i (w ∷ ws) t
       go rest (inl k) = record { place = zero; word = w; said = refl; leaf = subst (λ n. IsLeaf w n t) (let e : i ≡ i + zero = omega arith in e) (in_leaves w i t k) }
@@ -232,7 +201,7 @@ module _ (s : Stored) (stored : IsStored s) where
       in_right (leaves_at s u i) (leaves_from s (suc i) ws) (Leaf item.entry item.variant (i + suc n) (suc (i + suc n)))
       (subst (λ k. IsIn (leaves_from s (suc i) ws) (Leaf item.entry item.variant k (suc k))) (let e : suc i + n ≡ i + suc n = omega arith in e) (words_in (suc i) ws n w m item said at t))
 
-  pub once_words : (i : ℕ) (ws : List ℕ) → NoRepeats (leaves_from s i ws)
+  pub once_words : (i : ℕ) (ws : List ℕ) → EachOnce (leaves_from s i ws)
   once_words i [] = tt
   once_words i (w ∷ ws) =
       once_append (leaves_at s w i) (leaves_from s (suc i) ws) (once_leaves w i) (once_words (suc i) ws) (λ t h k.

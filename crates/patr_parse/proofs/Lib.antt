@@ -1,10 +1,13 @@
+pub mod Names
 pub mod Longer
+pub mod Moved
 pub mod Counted
 pub mod Reached
 pub mod Room
 pub mod Numbers
 pub mod Growing
 pub mod Joins
+pub mod Pushing
 pub mod Placed
 pub mod Tasks
 pub mod Standing
@@ -17,7 +20,6 @@ pub mod Ordered
 pub mod WholeEdges
 pub mod AllAnalyses
 pub mod Gathered
-pub mod Decisions
 pub mod Added
 pub mod Items
 pub mod Pushed
@@ -26,4 +28,6 @@ pub mod First
 pub mod NextCategories
 pub mod Begins
 pub mod Ready
+pub mod Drafted
 pub mod ItemEdges
+pub mod Sound

@@ -1,21 +1,13 @@
 -- The category of an edge's next daughter.
 use Rattle.std.proofs.Common.{◌≡◌, ℕ, suc, true, false, List, [], ◌∷◌, Option, Some, None, slice_get, sym, ap, ◌∙◌}
-use Rattle.patr_model.specs.Structure.{Atom, at}
+use Rattle.patr_parse.proofs.Names.{Atom, some_inj, Shown, value_of, EdgeKind, Edge, is_passive, AreEdges, is_judged, Stored, rules_of, keys, daughters, IsReady, next_of}
+use Rattle.patr_model.specs.Structure.{at}
 use Rattle.patr_model.specs.Derivation as derivation
-use Rattle.patr_model.proofs.Maps.{some_inj}
 use Rattle.patr_arena.specs.declared.value.Value as its
 use Rattle.patr_arena.specs.declared.value.Value.TheVariants as value
 use Rattle.patr_arena.specs.Paths.{found_of}
-use Rattle.patr_arena.specs.Shown.{Shown, value_of}
-use Rattle.patr_chart.specs.declared.edge.EdgeKind.{EdgeKind}
-use Rattle.patr_chart.specs.declared.edge.Edge.{Edge}
-use Rattle.patr_chart.specs.Edges.{is_passive}
-use Rattle.patr_chart.specs.Charted.{IsNext, AreEdges, tree}
-use Rattle.patr_chart.proofs.Shown.{is_tree, is_judged}
-use Rattle.patr_library.specs.Stored.{Stored, rules_of, keys}
-use Rattle.patr_parse.specs.Found.{daughters}
-use Rattle.patr_parse.specs.Tasks.{IsReady}
-use Rattle.patr_parse.specs.Begun.{next_of}
+use Rattle.patr_chart.specs.Charted.{IsNext, tree}
+use Rattle.patr_chart.proofs.Shown.{is_tree}
 use Rattle.patr_parse.proofs.Joins.{next_daughter}
 use Rattle.patr_parse.proofs.Predicting.{next_there, none_next}
 

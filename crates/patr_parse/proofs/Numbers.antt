@@ -1,8 +1,29 @@
 -- Lists of edge numbers, and members by number.
-use Rattle.std.proofs.Common.{◌≡◌, inl, inr, ℕ, zero, suc, ◌+◌, ◌<◌, ◌≤◌, List, [], ◌∷◌, length, take, get_or, sym, arith, subst}
-use Rattle.patr_model.specs.Derivation.{Derivation}
+use Rattle.std.proofs.Common.{◌≡◌, ◌⊎◌, inl, inr, ℕ, zero, suc, ◌+◌, ◌<◌, ◌≤◌, List, [], ◌∷◌, ◌++◌, length, map, take, get_or, refl, sym, ap, arith, subst}
+use Rattle.patr_model.specs.Chart.{IsIn}
+use Rattle.std.specs.List.{Contains}
 use Rattle.std.specs.List.Sorted.{IsStrictlyIncreasing}
-use Rattle.patr_lists.specs.Members.{IsIn}
+use Rattle.patr_parse.proofs.Names.{Derivation, EachOnce, Has}
+
+pub has_last : (xs : List ℕ) (x : ℕ) → Has (xs ++ x ∷ []) x
+has_last [] x = inl refl
+has_last (y ∷ xs) x = inr (has_last xs x)
+
+pub has_left : (xs : List ℕ) (x j : ℕ) → Has xs j → Has (xs ++ x ∷ []) j
+has_left [] x j h = absurd h
+has_left (y ∷ xs) x j (inl e) = inl e
+has_left (y ∷ xs) x j (inr h) = inr (has_left xs x j h)
+
+pub has_either : (xs : List ℕ) (x j : ℕ) → Has (xs ++ x ∷ []) j → Has xs j ⊎ (x ≡ j)
+has_either [] x j (inl e) = inr e
+has_either [] x j (inr h) = absurd h
+has_either (y ∷ xs) x j (inl e) = inl (inl e)
+has_either (y ∷ xs) x j (inr h) = elim (has_either xs x j h) [ inl k ↦ inl (inr k) | inr k ↦ inr k ]
+
+pub has_at : (xs : List ℕ) (i d : ℕ) → i < length xs → Has xs (get_or xs i d)
+has_at [] i d h = absurd (omega (arith, h))
+has_at (x ∷ xs) zero d h = inl refl
+has_at (x ∷ xs) (suc i) d h = inr (has_at xs i d (omega (arith, h)))
 
 -- each number is above those before it
 abbrev pub Rising : ℕ → List ℕ → Type 0
@@ -23,14 +44,28 @@ rising_at n [] i d r h = absurd (omega (arith, h))
 rising_at n (x ∷ xs) zero d r h = r.0
 rising_at n (x ∷ xs) (suc i) d r h = omega (arith, r.0, rising_at (suc x) xs i d r.1 (omega (arith, h)))
 
-before_at : (n : ℕ) (xs : List ℕ) (i d j : ℕ) → Rising n xs → i < length xs → IsIn (take i xs) j → j < get_or xs i d
+before_at : (n : ℕ) (xs : List ℕ) (i d j : ℕ) → Rising n xs → i < length xs → Has (take i xs) j → j < get_or xs i d
 before_at n [] i d j r h k = absurd (omega (arith, h))
 before_at n (x ∷ xs) zero d j r h k = absurd k
 before_at n (x ∷ xs) (suc i) d j r h (inl e) = omega (arith, e, rising_at (suc x) xs i d r.1 (omega (arith, h)))
 before_at n (x ∷ xs) (suc i) d j r h (inr k) = before_at (suc x) xs i d j r.1 (omega (arith, h)) k
 
-pub not_before : (n : ℕ) (xs : List ℕ) (i d : ℕ) → Rising n xs → i < length xs → IsIn (take i xs) (get_or xs i d) → ⊥
+pub not_before : (n : ℕ) (xs : List ℕ) (i d : ℕ) → Rising n xs → i < length xs → Has (take i xs) (get_or xs i d) → ⊥
 not_before n xs i d r h k = omega (arith, before_at n xs i d (get_or xs i d) r h k)
+
+-- membership, as std says it
+pub has_contains : (xs : List ℕ) (n : ℕ) → Has xs n → Contains xs n
+has_contains [] n h = absurd h
+has_contains (x ∷ xs) n (inl e) = (0, omega arith, e)
+has_contains (x ∷ xs) n (inr h) = let c = has_contains xs n h in (suc c.0, omega (arith, c.1), c.2)
+
+pub contains_has : (xs : List ℕ) (n : ℕ) → Contains xs n → Has xs n
+contains_has xs n c = go xs c.0 c.1 c.2
+  where
+    go : (xs : List ℕ) (k : ℕ) → k < length xs → get_or xs k n ≡ n → Has xs n
+    go [] k h e = absurd (omega (arith, h))
+    go (x ∷ xs) zero h e = inl e
+    go (x ∷ xs) (suc k) h e = inr (go xs k (omega (arith, h)) e)
 
 -- members by number
 pub record IsAt (ts : List Derivation) (k : ℕ) (d t : Derivation) : Type 0 where
@@ -44,3 +79,52 @@ in_taken zero ts d t h = absurd h
 in_taken (suc k) [] d t h = absurd h
 in_taken (suc k) (u ∷ ts) d t (inl e) = record { at = zero; before = omega arith; within = omega arith; is = e }
 in_taken (suc k) (u ∷ ts) d t (inr h) = let r = in_taken k ts d t h in record { at = suc r.at; before = omega (arith, r.before); within = omega (arith, r.within); is = r.is }
+
+pub taken_in : (k : ℕ) (ts : List Derivation) (d : Derivation) (j : ℕ) → j < k → j < length ts → IsIn (take k ts) (get_or ts j d)
+taken_in zero ts d j h l = absurd (omega (arith, h))
+taken_in (suc k) [] d j h l = absurd (omega (arith, l))
+taken_in (suc k) (u ∷ ts) d zero h l = inl refl
+taken_in (suc k) (u ∷ ts) d (suc j) h l = inr (taken_in k ts d j (omega (arith, h)) (omega (arith, l)))
+
+pub at_in : (ts : List Derivation) (d : Derivation) (j : ℕ) → j < length ts → IsIn ts (get_or ts j d)
+at_in [] d j h = absurd (omega (arith, h))
+at_in (u ∷ ts) d zero h = inl refl
+at_in (u ∷ ts) d (suc j) h = inr (at_in ts d j (omega (arith, h)))
+
+-- a list without repeats has each member at one number
+pub one_number : (ts : List Derivation) (d : Derivation) → EachOnce ts → (i j : ℕ) → i < length ts → j < length ts → get_or ts i d ≡ get_or ts j d → i ≡ j
+one_number [] d o i j h k e = absurd (omega (arith, h))
+one_number (t ∷ ts) d o zero zero h k e = refl
+one_number (t ∷ ts) d o zero (suc j) h k e = absurd (o.0 (subst (λ u. IsIn ts u) (sym e) (at_in ts d j (omega (arith, k)))))
+one_number (t ∷ ts) d o (suc i) zero h k e = absurd (o.0 (subst (λ u. IsIn ts u) e (at_in ts d i (omega (arith, h)))))
+one_number (t ∷ ts) d o (suc i) (suc j) h k e = ap (λ n. suc n) (one_number ts d o.1 i j (omega (arith, h)) (omega (arith, k)) e)
+
+pub has_taken : (xs : List ℕ) (i j : ℕ) → Has (take i xs) j → Has xs j
+has_taken xs zero j h = absurd h
+has_taken [] (suc i) j h = h
+has_taken (x ∷ xs) (suc i) j (inl e) = inl e
+has_taken (x ∷ xs) (suc i) j (inr h) = inr (has_taken xs i j h)
+
+above : (k : ℕ) (ns : List ℕ) (n : ℕ) → Rising k ns → Has ns n → k ≤ n
+above k [] n r h = absurd h
+above k (m ∷ ns) n r (inl q) = omega (arith, r.0, q)
+above k (m ∷ ns) n r (inr h) = omega (arith, r.0, above (suc m) ns n r.1 h)
+
+-- the derivations of some numbers
+module _ (f : ℕ → Derivation) where
+  pub in_map : (ns : List ℕ) (t : Derivation) → IsIn (map f ns) t → (n : ℕ) × Has ns n × (f n ≡ t)
+  in_map [] t h = absurd h
+  in_map (n ∷ ns) t (inl q) = (n, inl refl, q)
+  in_map (n ∷ ns) t (inr h) = let r = in_map ns t h in (r.0, inr r.1, r.2)
+
+  pub map_in : (ns : List ℕ) (n : ℕ) → Has ns n → IsIn (map f ns) (f n)
+  map_in [] n h = absurd h
+  map_in (m ∷ ns) n (inl q) = inl (ap f q)
+  map_in (m ∷ ns) n (inr h) = inr (map_in ns n h)
+
+  pub once_map : (k : ℕ) (ns : List ℕ) → ((m n : ℕ) → Has ns m → Has ns n → f m ≡ f n → m ≡ n) → Rising k ns → EachOnce (map f ns)
+  once_map k [] one r = tt
+  once_map k (n ∷ ns) one r = (
+    (λ h. (let a = in_map ns (f n) h in let same = one a.0 n (inr a.1) (inl refl) a.2 in omega (arith, above (suc n) ns a.0 r.1 a.1, same))),
+    once_map (suc n) ns (λ i j hi hj q. one i j (inr hi) (inr hj) q) r.1,
+  )

@@ -5,16 +5,14 @@ use Rattle.std.specs.Ordering.{is_lt, nat_cmp, ordering_then}
 use Rattle.std.specs.Cmp.Lexicographic.{slice_cmp}
 use Rattle.std.specs.List.{AllByRecursion}
 use Rattle.std.specs.List.Sorted.{IsSorted}
+use Rattle.patr_parse.proofs.Names.{Edge, Analysis, HasKey, edge_of}
 use Rattle.patr_model.specs.Derivation.{key}
 use Rattle.patr_model.specs.Session.{number_before, numbers, Rises}
-use Rattle.patr_chart.specs.declared.edge.Edge.{Edge}
 use Rattle.patr_chart.specs.declared.key.KeyItem.{KeyItem}
 use Rattle.patr_chart.specs.Edges.{item_of}
 use Rattle.patr_chart.specs.Charted.{tree}
 use Rattle.patr_chart.specs.Orders.{IsOrderOf}
 use Rattle.patr_chart.proofs.Ordered.{are_ordered, item_cmp}
-use Rattle.patr_parse.specs.declared.analyses.Analysis.{Analysis}
-use Rattle.patr_parse.specs.Analyses.{HasKey, edge_of}
 use Rattle.patr_parse.proofs.Picked.{times, times_two, times_rest}
 
 abbrev pub analysis_cmp : Analysis → Analysis → Ordering

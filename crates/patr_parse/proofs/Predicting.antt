@@ -2,41 +2,35 @@
 use Rattle.std.proofs.Common.{◌≡◌, ◌⊎◌, inl, inr, ℕ, zero, suc, ◌+◌, ◌<◌, ◌≤◌, Bool, true, false, cond, ◌&&◌, nat_eq, List, [], ◌∷◌, ◌++◌, length, map, get_or, Option, Some, None, slice_get, option_and_then, refl, sym, ap, ◌∙◌, arith, subst, length-append, eqb-true, eq-eqb, nat_lt, ltb-true, ltb-false}
 use Rattle.std.proofs.lemmas.List.{get_or_append_left}
 use Rattle.std.proofs.lemmas.Option.{slice_get_within}
-use Rattle.patr_lists.proofs.Members.{in_cases, in_right, in_left, in_at}
-use Rattle.patr_lists.specs.Members.{IsIn}
-use Rattle.patr_model.specs.Structure.{Value, Atom, Node, Structure, at}
+use Rattle.patr_parse.proofs.Names.{Value, Atom, Node, Structure, Rules, Derivation, Leaf, Begin, Extend, end, IsSolvable, IsLeastValue, InChart, Each, IsNoPair, some_inj, and_then_some, in_either, Shown, value_of, Edge, derivations, from_length, get_below, RuleItem, EntryItem, Stored, IsStored, rules_of, keys, is_of_word, Mark, AreSound, judge, made_by, Stands, begun_at, begun_by, next_of, HasMark, HasMarkOf, IsAloneEdge, ArePredicted, IsMarked}
+use Rattle.patr_model.specs.Structure.{at}
 use Rattle.patr_model.specs.Category.{atom_of}
 use Rattle.patr_model.specs.Derivation as derivation
-use Rattle.patr_model.specs.Derivation.{Rules, RuleVariant, EntryVariant, Derivation, Leaf, Begin, Extend, rule_variant, entry_variant, root_rule, end, IsPartial, IsComplete}
-use Rattle.patr_model.specs.Solution.{IsSolvable, IsLeastValue}
-use Rattle.patr_model.specs.Chart.{InChart}
+use Rattle.patr_model.specs.Derivation.{RuleVariant, EntryVariant, rule_variant, entry_variant, root_rule, IsPartial, IsComplete}
+use Rattle.patr_model.specs.Chart.{IsIn}
 use Rattle.patr_model.specs.Plain.{slot_category}
 use Rattle.patr_model.specs.Builds.{HasCategories}
 use Rattle.patr_model.specs.Equation.{Equation}
 use Rattle.patr_model.specs.Grammar.{variants}
 use Rattle.patr_model.specs.Build.{entry_variant_of, entry_variants, feature_variants}
-use Rattle.patr_model.specs.Renaming.{Each}
-use Rattle.patr_model.specs.Rounds.{IsNoPair, IsPredicted}
-use Rattle.patr_model.proofs.Maps.{some_inj, and_then_some}
+use Rattle.patr_model.specs.Rounds.{IsPredicted}
+use Rattle.patr_model.proofs.Rounds.{in_left, in_right}
 use Rattle.patr_model.proofs.PlainChart.{follows, plainly, slot_atom, slot_is}
 use Rattle.patr_model.proofs.StatedCategories.{are_built}
-use Rattle.patr_arena.specs.Shown.{Shown, value_of}
-use Rattle.patr_chart.specs.declared.edge.Edge.{Edge}
-use Rattle.patr_chart.specs.Charted.{derivations, tree}
-use Rattle.patr_chart.proofs.Trees.{from_length}
+use Rattle.patr_chart.specs.Charted.{tree}
 use Rattle.patr_lexicon.specs.declared.lexicon.Entry.{Entry}
 use Rattle.patr_lexicon.specs.Seen.{entry_seen}
-use Rattle.patr_library.specs.declared.item.RuleItem.{RuleItem}
-use Rattle.patr_library.specs.declared.item.EntryItem.{EntryItem}
-use Rattle.patr_library.specs.Stored.{Stored, IsStored, rules_of, grammar_of, entries_of, keys, number, word_at, is_number, is_of_word}
-use Rattle.patr_parse.specs.declared.prediction.Mark.{Mark}
-use Rattle.patr_parse.specs.Found.{AreSound}
-use Rattle.patr_parse.specs.Tasks.{judge, made_by}
-use Rattle.patr_parse.specs.Standing.{Stands}
-use Rattle.patr_parse.specs.Begun.{begun_at, begun_unless, begun_by, next_of, is_marked, HasMark, HasMarkOf, IsAloneEdge}
-use Rattle.patr_parse.specs.Predicting.{ArePredicted, IsMarked}
+use Rattle.patr_library.specs.Stored.{grammar_of, entries_of, number, word_at, is_number}
+use Rattle.patr_parse.specs.Begun.{begun_unless, is_marked}
+use Rattle.patr_parse.proofs.Members.{place_of}
+use Rattle.patr_parse.proofs.Numbers.{at_in}
 use Rattle.patr_parse.proofs.Added.{AreNew, none_new, derivations_new}
 use Rattle.patr_parse.proofs.Items.{rule_item, begun_least, begun_solvable, IsBegun, in_begun, begun_in, once_begun, no_pair_begun}
+
+past : (cs : List ℕ) (n : ℕ) → length cs ≤ n → slice_get cs n ≡ None
+past [] n h = refl
+past (c ∷ cs) zero h = absurd (omega (arith, h))
+past (c ∷ cs) (suc n) h = past cs n (omega (arith, h))
 
 -- ---- what a library states
 
@@ -64,17 +58,7 @@ module _ (s : Stored) where
   pub none_next : (t : Derivation) → IsComplete (rules_of s) t → next_of (rules_of s) t ≡ None
   none_next (Leaf e k i j) full = refl
   none_next (Begin r k i) full = ap (option_and_then (λ (w : RuleVariant). slice_get w.categories 1)) full.1 ∙ past full.0.categories 1 (let q = full.2 in omega (arith, q))
-    where
-      past : (cs : List ℕ) (n : ℕ) → length cs ≤ n → slice_get cs n ≡ None
-      past [] n h = refl
-      past (c ∷ cs) zero h = absurd (omega (arith, h))
-      past (c ∷ cs) (suc n) h = past cs n (omega (arith, h))
   none_next (Extend a p) full = ap (option_and_then (λ (w : RuleVariant). slice_get w.categories (suc (suc (derivation.seen a))))) full.1 ∙ past full.0.categories (suc (suc (derivation.seen a))) (let q = full.2 in omega (arith, q))
-    where
-      past : (cs : List ℕ) (n : ℕ) → length cs ≤ n → slice_get cs n ≡ None
-      past [] n h = refl
-      past (c ∷ cs) zero h = absurd (omega (arith, h))
-      past (c ∷ cs) (suc n) h = past cs n (omega (arith, h))
 
   -- a tree that has a next slot is partial
   partial_of : (t : Derivation) (c : ℕ) → next_of (rules_of s) t ≡ Some c → IsPartial (rules_of s) t
@@ -135,7 +119,7 @@ module _ (s : Stored) (ws : List ℕ) (M : ℕ → ℕ → Type 0) (seen : ℕ) 
       | inl k ↦ there_still (Begin item.rule item.variant i) (p.marked n i item at k)
       | inr k ↦ subst (λ l. IsIn l (Begin item.rule item.variant i)) (sym is) (in_right (derivations es) ts (Begin item.rule item.variant i) k)
     ];
-    begun = λ n i item at h. elim (in_cases (derivations es) ts (Begin item.rule item.variant i) (subst (λ l. IsIn l (Begin item.rule item.variant i)) is h)) [
+    begun = λ n i item at h. elim (in_either (derivations es) ts (Begin item.rule item.variant i) (subst (λ l. IsIn l (Begin item.rule item.variant i)) is h)) [
       | inl k ↦ more item.mother.0 i (p.begun n i item at k)
       | inr k ↦ begun n i item at k
     ];
@@ -176,11 +160,6 @@ predicted_next s ws M seen es here next p = record {
         go true q = inl (ltb-true k seen q)
         go false q = inr (omega (arith, b, ltb-false k seen q))
 
-numbered : (ts : List Derivation) (t : Derivation) → IsIn ts t → (n : ℕ) × (n < length ts) × (get_or ts n (Begin 0 0 0) ≡ t)
-numbered [] t h = absurd h
-numbered (u ∷ ts) t (inl q) = (zero, omega arith, q)
-numbered (u ∷ ts) t (inr h) = let r = numbered ts t h in (let n = r.1 in (suc r.0, omega (arith, n), r.2))
-
 -- the word of an entry variant is that of the lexicon's entry
 word_at_is : (s : Stored) (item : EntryItem) (entry : EntryVariant) → entry_variant (rules_of s) item.entry item.variant ≡ Some entry → word_at s.lexicon item.entry ≡ Some entry.word
 word_at_is s item entry h = go s.lexicon item.entry h
@@ -220,7 +199,7 @@ module _ (s : Stored) (stored : IsStored s) (ws : List ℕ) (v : Shown) (es : Li
   follow a r k i here part ends sol may =
       let variant = sol.2.solves in
       let same = plainly g keys.cat (has_categories s) (by_category s) ws a r k i part (variant.0, variant.1) may in
-      let t = numbered (derivations es) a here in
+      let t = place_of (derivations es) (Begin 0 0 0) a here in
       let place : t.0 < length es = (let b = t.1 in omega (arith, b, from_length [] es)) in
       let marked : M same.0 (end a) = subst (λ x. M same.0 (end x)) t.2 (p.followed t.0 same.0 place (subst (λ x. next_of g x ≡ Some same.0) (sym t.2) same.1)) in
       let mother : slice_get variant.0.categories 0 ≡ Some same.0 = ap (option_and_then (λ (x : RuleVariant). slice_get x.categories 0)) (sym variant.1) ∙ same.2 in
@@ -300,13 +279,13 @@ module _ (s : Stored) (stored : IsStored s) where
   module _ (ws : List ℕ) (v : Shown) (es : List Edge) (sound : AreSound (rules_of s) s v es) (j : ℕ) (stands : Stands (judge s) (rules_of s) ws es j [])
       (marks : List Mark) (seen : ℕ) (h : ArePredicted s ws (IsMarked marks) seen es) (e : Edge) (at_e : slice_get es seen ≡ Some e) where
     here : seen < length es
-    here = slice_get_within es seen e at_e
+    here = get_below es seen e at_e
 
     t : Derivation
     t = tree es seen
 
     t_in : InChart (judge s) (rules_of s) ws (tree es seen)
-    t_in = stands.worked.edges (tree es seen) (in_left (derivations es) [] (tree es seen) (in_at (derivations es) (Begin 0 0 0) seen (omega (arith, here, from_length [] es))))
+    t_in = stands.worked.edges (tree es seen) (in_left (derivations es) [] (tree es seen) (at_in (derivations es) (Begin 0 0 0) seen (omega (arith, here, from_length [] es))))
 
     -- a rule whose mother is the next category
     licensed : (c : ℕ) → next_of (rules_of s) (tree es seen) ≡ Some c → (u : Derivation) → IsBegun s stored c (end (tree es seen)) u → InChart (judge s) (rules_of s) ws u

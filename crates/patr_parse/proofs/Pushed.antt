@@ -1,18 +1,10 @@
 -- Edges are put behind those of a chart, one after another.
-use Rattle.std.proofs.Common.{◌≡◌, ℕ, suc, ◌+◌, ◌<◌, ◌≤◌, Bool, List, [], ◌∷◌, ◌++◌, length, take, drop, get_or, map, sym, ap, ◌∙◌, arith, subst, append_assoc, append-nil, length-append}
+use Rattle.std.proofs.Common.{◌≡◌, ℕ, suc, ◌+◌, ◌<◌, ◌≤◌, Bool, true, List, [], ◌∷◌, ◌++◌, length, take, drop, get_or, map, sym, ap, ◌∙◌, arith, subst, append_assoc, append-nil, length-append}
 use Rattle.std.proofs.lemmas.List.{length-map, length-take-le, take_more, map-append, take-append-drop}
-use Rattle.patr_text.specs.declared.symbols.Id.{Id}
-use Rattle.patr_model.specs.Derivation.{Rules, Derivation}
-use Rattle.patr_model.specs.Renaming.{Each}
-use Rattle.patr_arena.specs.Shown.{Shown}
-use Rattle.patr_chart.specs.declared.edge.Edge.{Edge}
-use Rattle.patr_library.specs.Stored.{Stored}
-use Rattle.patr_parse.specs.Begun.{leaves_at, leaves_from, IsAloneEdge}
+use Rattle.std.proofs.Math.Seq.{take-length}
 use Rattle.std.proofs.lemmas.Option.{slice_get_within}
-use Rattle.patr_lists.specs.Numbers.{places}
-use Rattle.patr_lists.proofs.Members.{in_at}
-use Rattle.patr_lists.specs.Members.{IsIn}
-use Rattle.patr_chart.specs.Charted.{HasOrigin, IsEdgeAfter}
+use Rattle.patr_parse.proofs.Names.{Id, Rules, Derivation, Each, Shown, Edge, Stored, leaves_at, leaves_from, ArePushed, IsAloneEdge, places, HasOrigin, IsEdgeAfter, Has}
+use Rattle.patr_parse.proofs.Numbers.{has_at}
 use Rattle.patr_parse.proofs.Items.{placed_is}
 use Rattle.patr_parse.proofs.Added.{each_append, each_length}
 
@@ -49,6 +41,13 @@ module _ (g : Rules) (s : Stored) (v : Shown) where
   no_next f ns i here limit old es b full =
       omega (arith, full, here, behind_length old es (map f (take i ns)) b, length-map (take i ns) f, length-take-le i ns (omega (arith, here)), length-map ns f)
 
+  -- all were pushed
+  pub all_pushed : (f : ℕ → Derivation) (ns ms : List ℕ) → ns ≡ ms → (i : ℕ) → i ≡ length ns → (limit : ℕ) (old es : List Edge) → Behind g s v old (map f (take i ns)) es → length es ≤ limit → ArePushed g s v limit old (map f ms) es true
+  all_pushed f ns ms same i end limit old es b few =
+      let all : take i ns ≡ ms = ap (λ n. take n ns) end ∙ (take-length ns ∙ same) in
+      let c = subst (λ l. Behind g s v old (map f l) es) all b in
+      (c.0, c.1, c.2, few)
+
   -- it may be pushed
   pub after_alone : (t : Derivation) (e : Edge) (words : ℕ) (es : List Edge) → IsAloneEdge g s v t e → e.start ≤ e.end → e.end ≤ words → IsEdgeAfter words es e
   after_alone t e words es a order within = record { order = order; within = within; origin = subst (λ o. HasOrigin es e o) (sym a.back) a.place }
@@ -56,7 +55,7 @@ module _ (g : Rules) (s : Stored) (v : Shown) where
 -- the numbers of members are below the length
 pub placed_below : {X : Type 0} (test : X → Bool) (xs : List X) (ns : List ℕ) → ns ≡ places test 0 xs → (i : ℕ) → i < length ns → get_or ns i 0 < length xs
 placed_below test xs ns is i here =
-    let p = placed_is test xs (get_or ns i 0) (subst (λ l. IsIn l (get_or ns i 0)) is (in_at ns 0 i here)) in
+    let p = placed_is test xs (get_or ns i 0) (subst (λ l. Has l (get_or ns i 0)) is (has_at ns i 0 here)) in
     slice_get_within xs (get_or ns i 0) p.0 p.1
 
 -- ---- the entries of the first so many words

@@ -1,7 +1,6 @@
 -- The room that a decision needs, by bounds of what both sides reach.
 use Rattle.std.proofs.Common.{ℕ, ◌<◌, length, arith}
-use Rattle.patr_model.specs.Structure.{Value, Node, IsValue}
-use Rattle.patr_arena.specs.Shown.{Shown, IsShown}
+use Rattle.patr_parse.proofs.Names.{Value, Node, IsValue, Shown, IsShown}
 use Rattle.patr_scratch.specs.Contents.{Contents, HasRoom}
 use Rattle.patr_unify.specs.Deciding.{HasDecisionRoom}
 use Rattle.patr_parse.specs.Joining.{AreWithin}

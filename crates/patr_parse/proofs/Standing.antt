@@ -2,26 +2,22 @@
 use Rattle.std.proofs.Common.{◌≡◌, inl, inr, ℕ, zero, suc, ◌+◌, ◌<◌, ◌≤◌, List, [], ◌∷◌, ◌++◌, length, take, Option, Some, None, slice_get, refl, sym, ap, ◌∙◌, arith, subst, append-nil, append_assoc, length-append}
 use Rattle.std.proofs.lemmas.List.{map-append, length-map, take_more, take-append-le, get_or_append_left}
 use Rattle.std.proofs.Math.Seq.{take-length}
-use Rattle.std.proofs.lemmas.Option.{slice_get_within}
-use Rattle.patr_lists.proofs.Places.{get_parts}
-use Rattle.patr_lists.proofs.Members.{in_cases, in_left, one_place, in_at, once_left}
-use Rattle.patr_lists.specs.Members.{IsIn}
-use Rattle.patr_model.specs.Derivation.{Rules, Derivation, Begin, Extend}
-use Rattle.patr_model.specs.Chart.{Judgement, InChart, IsChart, HasMoreThan}
-use Rattle.patr_model.proofs.Maps.{some_inj}
-use Rattle.patr_model.specs.Rounds.{IsWorked, IsPredicted, IsYield}
-use Rattle.patr_model.proofs.Rounds.{rounds}
-use Rattle.patr_chart.specs.declared.edge.EdgeKind.{EdgeKind}
-use Rattle.patr_chart.specs.declared.edge.EdgeKind.TheVariants.{Entry, Rule}
-use Rattle.patr_chart.specs.declared.edge.Back.{Back}
-use Rattle.patr_chart.specs.declared.edge.Edge.{Edge}
-use Rattle.patr_chart.specs.Charted.{HasOrigin, IsEdgeAfter, alone, derivation_at, derived_by, derived, derivations_from, derivations, tree}
-use Rattle.patr_chart.specs.Laws.{KindsFit}
+use Rattle.patr_parse.proofs.Names.{Rules, Derivation, Begin, Extend, Judgement, InChart, EachOnce, IsChart, HasMoreThan, some_inj, IsWorked, in_either, rounds, EdgeKind, Rule, Back, Edge, HasOrigin, IsEdgeAfter, derived_by, derived, derivations, KindsFit, get_below, made_by, AreSmall, Stands}
+use Rattle.patr_model.specs.Chart.{IsIn}
+use Rattle.patr_model.specs.Rounds.{IsPredicted, IsYield}
+use Rattle.patr_model.proofs.Rounds.{in_left}
+use Rattle.patr_chart.specs.declared.edge.EdgeKind.TheVariants.{Entry}
+use Rattle.patr_chart.specs.Charted.{alone, derivation_at, derivations_from, tree}
 use Rattle.patr_chart.proofs.Trees.{from_append}
-use Rattle.patr_parse.specs.Tasks.{made_by, AreSmall, HasLarge, IsTask}
-use Rattle.patr_parse.specs.Standing.{Stands, MayBePushed, RoundGave, IsMadeOfTwo, IsRound}
-use Rattle.patr_parse.proofs.Numbers.{in_taken}
+use Rattle.patr_parse.specs.Tasks.{by_edges, HasLarge}
+use Rattle.patr_parse.specs.Standing.{MayBePushed, IsMadeOfTwo, IsRound}
+use Rattle.patr_parse.proofs.Numbers.{at_in, in_taken, one_number}
 use Rattle.patr_parse.proofs.Tasks.{trees_length}
+use Rattle.patr_parse.proofs.Growing.{get_parts}
+
+pub once_left : (ts us : List Derivation) → EachOnce (ts ++ us) → EachOnce ts
+once_left [] us o = tt
+once_left (t ∷ ts) us o = ((λ h. o.0 (in_left ts us t h)), once_left ts us o.1)
 
 -- what an edge stands for doesn't depend on later ones
 derived_more : (words : ℕ) (es : List Edge) (more : List Derivation) (e : Edge) → IsEdgeAfter words es e → derived (derivations es ++ more) e ≡ derived (derivations es) e
@@ -30,8 +26,8 @@ derived_more words es more e h = go e.back h.origin
     go : (o : Option Back) → HasOrigin es e o → derived_by (derivations es ++ more) e o ≡ derived_by (derivations es) e o
     go None k = refl
     go (Some b) k =
-        let a = slice_get_within es b.active k.0 k.2 in
-        let p = slice_get_within es b.passive k.1 k.3 in
+        let a = get_below es b.active k.0 k.2 in
+        let p = get_below es b.passive k.1 k.3 in
         let long = trees_length es in
         ap (λ t. Extend t (derivation_at (derivations es ++ more) b.passive)) (get_or_append_left (derivations es) more (Begin 0 0 0) b.active (omega (arith, a, long)))
         ∙ ap (λ t. Extend (derivation_at (derivations es) b.active) t) (get_or_append_left (derivations es) more (Begin 0 0 0) b.passive (omega (arith, p, long)))
@@ -52,30 +48,6 @@ derivations_made words es ys all =
 made_length : (es ys : List Edge) → length (made_by es ys) ≡ length ys
 made_length es ys = length-map ys (derived (derivations es))
 
-member_made : (es ys : List Edge) (n : ℕ) (e : Edge) → slice_get ys n ≡ Some e → IsIn (made_by es ys) (derived (derivations es) e)
-member_made es [] n e h = cc
-member_made es (y ∷ ys) zero e h = inl (ap (λ x. derived (derivations es) x) (some_inj y e h))
-member_made es (y ∷ ys) (suc n) e h = inr (member_made es ys n e h)
-
--- an edge that stands for a longer derivation was made of two
-longer_made : (es : List Edge) (e : Edge) (a p : Derivation) → derived (derivations es) e ≡ Extend a p → (b : Back) × (e.back ≡ Some b)
-longer_made es e a p q = go e.back refl q
-  where
-    not_alone : (k : EdgeKind) → alone k e ≡ Extend a p → ⊥
-    not_alone (Entry f v) r = cc
-    not_alone (Rule r v i s n) w = cc
-
-    go : (o : Option Back) → e.back ≡ o → derived_by (derivations es) e o ≡ Extend a p → (b : Back) × (e.back ≡ Some b)
-    go None w r = absurd (not_alone e.kind r)
-    go (Some b) w r = (b, w)
-
-pub task_pushed : (Q : Derivation → Type 0) (g : Rules) (words : ℕ) (es : List Edge) (k : ℕ) (ys zs : List Edge) → IsTask Q g words es k zs → MayBePushed words es ys → MayBePushed words es (ys ++ zs)
-task_pushed Q g words es k ys zs t old n e h = elim (get_parts ys zs n e h) [
-  | inl at ↦ old n e at
-  | inr at ↦ (let q = (t.yields.pairs (derived (derivations es) e) (member_made es zs at.0 e at.2)).0 in
-      let m = longer_made es e q.0 q.1 q.2 in (t.ground at.0 e at.2, m.0, m.1))
-]
-
 -- what was made stands behind what was there
 made_of_two : (words : ℕ) (es ys : List Edge) → MayBePushed words es ys → (t : Derivation) → IsIn (made_by es ys) t → IsMadeOfTwo t
 made_of_two words es [] m t h = absurd h
@@ -85,21 +57,15 @@ made_of_two words es (y ∷ ys) m t (inl q) =
 made_of_two words es (y ∷ ys) m t (inr h) = made_of_two words es ys (λ n e k. m (suc n) e k) t h
 
 small_append : (limit : ℕ) (ts us : List Derivation) → AreSmall limit ts → AreSmall limit us → AreSmall limit (ts ++ us)
-small_append limit ts us a b t h = elim (in_cases ts us t h) [ inl k ↦ a t k | inr k ↦ b t k ]
+small_append limit ts us a b t h = elim (in_either ts us t h) [ inl k ↦ a t k | inr k ↦ b t k ]
 
-pub round_done : (limit words : ℕ) (es ys : List Edge) → AreSmall limit (derivations es) → RoundGave limit words es ys → IsRound limit es (es ++ ys)
-round_done limit words es ys small r =
-    let is = derivations_made words es ys (λ n e h. (r.ground n e h).0) in record {
-      grown = (ys, refl, is, made_of_two words es ys r.ground);
-      small = subst (λ l. AreSmall limit l) (sym is) (small_append limit (derivations es) (made_by es ys) small r.small);
-      few = (let few = r.few in omega (arith, few, length-append es ys));
+pub round_done : (limit words : ℕ) (es ys : List Edge) → AreSmall limit (derivations es) → MayBePushed words es ys → AreSmall limit (made_by es ys) → length es + length ys ≤ limit → IsRound limit es (es ++ ys)
+round_done limit words es ys small ground made few =
+    let is = derivations_made words es ys (λ n e h. (ground n e h).0) in record {
+      grown = (ys, refl, is, made_of_two words es ys ground);
+      small = subst (λ l. AreSmall limit l) (sym is) (small_append limit (derivations es) (made_by es ys) small made);
+      few = omega (arith, few, length-append es ys);
     }
-
-pub chart_edge : (j : Judgement) (g : Rules) (ws : List ℕ) (t : Derivation) → InChart j g ws t → j.IsEdge t
-chart_edge j g ws t (InChart.word e k i i' entry q v n edge) = edge
-chart_edge j g ws t (InChart.first r k rule q s edge) = edge
-chart_edge j g ws t (InChart.predicted a r k i h part q edge may) = edge
-chart_edge j g ws t (InChart.extended a p h part hp full q edge) = edge
 
 -- edges that are made of two fit
 fit_pushed : (g : Rules) (words : ℕ) (es ys : List Edge) → KindsFit g es → MayBePushed words es ys → KindsFit g (es ++ ys)
@@ -113,18 +79,18 @@ fit_pushed g words es ys fit m k e h none = elim (get_parts es ys k e h) [
 
 module _ (j : Judgement) (g : Rules) (ws : List ℕ) where
   -- one task
-  pub stands_task : (words : ℕ) (es : List Edge) (k : ℕ) (ys zs : List Edge) → Stands j g ws es k ys → k < length es → IsTask j.IsEdge g words es k zs
+  pub stands_task : (es : List Edge) (k : ℕ) (ys zs : List Edge) → Stands j g ws es k ys → k < length es → IsYield (by_edges j.IsEdge) g (take k (derivations es)) (tree es k) (made_by es zs)
       → Stands j g ws es (k + 1) (ys ++ zs)
-  stands_task words es k ys zs s h t =
+  stands_task es k ys zs s h t =
       let D = derivations es in
       let long = trees_length es in
       let here : k < length D = omega (arith, h, long) in
       let x = tree es k in
       let fresh : IsIn (take k D) x → ⊥ = λ i.
       let at = in_taken k D (Begin 0 0 0) x i in
-      let same = one_place D (Begin 0 0 0) (once_left D (made_by es ys) s.worked.once) at.at k at.within here at.is in let before = at.before in omega (arith, same, before) in
-      let yields : IsYield j g (take k D) x (made_by es zs) = record { once = t.yields.once; pairs = t.yields.pairs; every = t.yields.every } in
-      let w = (rounds j g ws).works (take k D) (D ++ made_by es ys) x (made_by es zs) s.worked (in_left D (made_by es ys) x (in_at D (Begin 0 0 0) k here)) fresh yields in
+      let same = one_number D (Begin 0 0 0) (once_left D (made_by es ys) s.worked.once) at.at k at.within here at.is in let before = at.before in omega (arith, same, before) in
+      let yields : IsYield j g (take k D) x (made_by es zs) = record { once = t.once; pairs = t.pairs; every = t.every } in
+      let w = (rounds j g ws).works (take k D) (D ++ made_by es ys) x (made_by es zs) s.worked (in_left D (made_by es ys) x (at_in D (Begin 0 0 0) k here)) fresh yields in
       record {
         worked = subst (λ l. IsWorked j g ws l (D ++ made_by es (ys ++ zs))) (sym (take_more D k (Begin 0 0 0) here))
             (subst (λ l. IsWorked j g ws (take k D ++ x ∷ []) l)

@@ -1,35 +1,23 @@
 -- The passive edges of the start symbol over all the words are the analyses.
 use Rattle.std.proofs.Common.{◌≡◌, ℕ, zero, suc, Bool, true, false, cond, ◌&&◌, nat_eq, eqb-true, eq-eqb, List, [], ◌∷◌, length, take, Option, Some, None, option_and_then, slice_get, refl, sym, ap, ◌∙◌, arith, subst}
-use Rattle.std.proofs.lemmas.Option.{slice_get_within}
-use Rattle.patr_parse.proofs.Tasks.{trees_length}
-use Rattle.patr_lists.proofs.Alls.{all_get}
-use Rattle.patr_lists.proofs.Places.{get_there}
-use Rattle.patr_lists.proofs.Members.{place_of}
+use Rattle.patr_parse.proofs.Names.{Value, Atom, Node, Structure, Rules, Derivation, Begin, InChart, IsChart, IsSolvable, IsLeastValue, variant_steps, Shown, value_of, EdgeKind, Rule, Edge, is_passive, HasOrigin, AreEdges, derivations, KindsFit, get_below, from_length, is_judged, RuleItem, Stored, IsRuleItem, keys, root_of, AreSound, is_whole}
 use Rattle.patr_model.specs.Structure as structure
-use Rattle.patr_model.specs.Structure.{Value, Atom, Node, Structure}
 use Rattle.patr_model.specs.Category.{atom_of, atom_at}
-use Rattle.patr_model.specs.Derivation.{Rules, Derivation, Begin, rule_variant}
-use Rattle.patr_model.specs.Chart.{InChart, word, first, predicted, extended, IsChart, IsDerivation, IsAnalysis}
-use Rattle.patr_model.specs.Solution.{IsSolvable, IsLeastValue}
+use Rattle.patr_model.specs.Derivation.{rule_variant}
+use Rattle.patr_model.specs.Chart.{word, first, predicted, extended, IsDerivation, IsAnalysis}
 use Rattle.patr_model.specs.Solved.{solved}
 use Rattle.patr_model.specs.Laws.{HaveLeastValues}
 use Rattle.patr_model.proofs.Categories.{least_into}
 use Rattle.patr_model.proofs.Prediction.{atoms_stay}
-use Rattle.patr_model.proofs.Variants.{variant_steps}
-use Rattle.patr_arena.specs.Shown.{Shown, value_of}
-use Rattle.patr_chart.specs.declared.edge.EdgeKind.{EdgeKind}
-use Rattle.patr_chart.specs.declared.edge.EdgeKind.TheVariants.{Entry, Rule}
-use Rattle.patr_chart.specs.declared.edge.Edge.{Edge}
-use Rattle.patr_chart.specs.Edges.{is_passive}
-use Rattle.patr_chart.specs.Charted.{IsAlone, HasOrigin, AreEdges, derivations, starts_at, tree}
-use Rattle.patr_chart.specs.Laws.{KindFits, KindsFit, IsJudged}
+use Rattle.patr_chart.specs.declared.edge.EdgeKind.TheVariants.{Entry}
+use Rattle.patr_chart.specs.Charted.{IsAlone, starts_at, tree}
+use Rattle.patr_chart.specs.Laws.{KindFits, IsJudged}
 use Rattle.patr_chart.proofs.Trees.{tree_of}
-use Rattle.patr_chart.proofs.Shown.{is_judged}
-use Rattle.patr_library.specs.declared.item.RuleItem.{RuleItem}
-use Rattle.patr_library.specs.Stored.{Stored, HasItems, IsRuleItem, keys, root_of}
-use Rattle.patr_parse.specs.Found.{AreSound, IsOfItem}
-use Rattle.patr_parse.specs.Analyses.{is_atom, has_category, is_whole}
-use Rattle.patr_parse.proofs.Members.{all_there}
+use Rattle.patr_library.specs.Stored.{HasItems}
+use Rattle.patr_parse.specs.Found.{IsOfItem}
+use Rattle.patr_parse.specs.Analyses.{is_atom, has_category}
+use Rattle.patr_parse.proofs.Tasks.{trees_length}
+use Rattle.patr_parse.proofs.Members.{all_get, all_there, element_at, place_of}
 
 both : (b c : Bool) → b && c ≡ true → (b ≡ true) × (c ≡ true)
 both true c h = (refl, h)
@@ -101,12 +89,12 @@ module _ (g : Rules) (s : Stored) (items : HasItems g s.shown s.rules s.entries)
 
     module _ (cat : ℕ) (ws : List ℕ) (chart : IsChart (solved g cat) g ws (derivations es)) where
       in_chart : (k : ℕ) (e : Edge) → slice_get es k ≡ Some e → InChart (solved g cat) g ws (tree es k)
-      in_chart k e at = all_get (InChart (solved g cat) g ws) (derivations es) k (Begin 0 0 0) chart.edges (omega (arith, trees_length es, slice_get_within es k e at))
+      in_chart k e at = all_get (InChart (solved g cat) g ws) (derivations es) k (Begin 0 0 0) chart.edges (omega (arith, trees_length es, get_below es k e at))
 
       pub edge_of_tree : (t : Derivation) → InChart (solved g cat) g ws t → (k : ℕ) × (e : Edge) × (slice_get es k ≡ Some e) × (tree es k ≡ t)
       edge_of_tree t h =
           let p = place_of (derivations es) (Begin 0 0 0) t (chart.every t h) in
-          let e = get_there es p.0 (omega (arith, trees_length es, p.1)) in
+          let e = element_at es p.0 (omega (arith, trees_length es, p.1)) in
           (p.0, e.0, e.1, p.2)
 
       pub have_least : HaveLeastValues g cat ws

@@ -1,10 +1,12 @@
 pub mod Analyses
 pub mod Begun
 pub mod Closing
+pub mod Drafts
 pub mod Found
 pub mod Joining
 pub mod Kept
 pub mod Predicting
+pub mod Rounds
 pub mod Sentences
 pub mod Standing
 pub mod Tasks

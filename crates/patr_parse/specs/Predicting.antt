@@ -1,7 +1,7 @@
 -- What a chart has of the edges that need no passive edge.
-use Rattle.std.specs.Prelude.{◌≡◌, ℕ, suc, ◌<◌, ◌≤◌, List, length, true, Some, slice_get}
-use Rattle.patr_lists.specs.Members.{IsIn}
+use Rattle.std.specs.Prelude.{◌≡◌, ℕ, suc, ◌<◌, ◌≤◌, List, [], ◌++◌, length, take, true, Some, slice_get}
 use Rattle.patr_model.specs.Derivation.{Leaf, Begin, end}
+use Rattle.patr_model.specs.Chart.{IsIn}
 use Rattle.patr_chart.specs.declared.edge.Edge.{Edge}
 use Rattle.patr_chart.specs.Charted.{derivations, tree}
 use Rattle.patr_library.specs.declared.item.RuleItem.{RuleItem}
@@ -9,6 +9,10 @@ use Rattle.patr_library.specs.declared.item.EntryItem.{EntryItem}
 use Rattle.patr_library.specs.Stored.{Stored, rules_of, is_of_word}
 use Rattle.patr_parse.specs.declared.prediction.Mark.{Mark}
 use Rattle.patr_parse.specs.declared.prediction.Prediction.{Prediction}
+use Rattle.patr_arena.specs.Shown.{Shown}
+use Rattle.patr_parse.specs.Found.{AreSound}
+use Rattle.patr_parse.specs.Standing.{Stands}
+use Rattle.patr_parse.specs.Tasks.{IsReady, judge}
 use Rattle.patr_parse.specs.Begun.{is_marked, next_of}
 
 -- Marked c i: each rule item with mother c stands at position i, and no other rule does. The first `seen` edges have their predictions.
@@ -30,3 +34,19 @@ IsMarked marks c i = is_marked marks c i ≡ true
 -- where a prediction stands
 abbrev pub IsPrediction : Stored → List ℕ → Prediction → List Edge → Type 0
 IsPrediction s ws p es = ArePredicted s ws (IsMarked p.marks.keys) p.seen es
+
+-- the entries of the words and the rules of the start symbol are the first edges
+pub record IsInitialized (s : Stored) (ws : List ℕ) (v : Shown) (limit : ℕ) (p : Prediction) (es : List Edge) : Type 0 where
+  pub stands : Stands (judge s) (rules_of s) ws es 0 []
+  pub sound : AreSound (rules_of s) s v es
+  pub predicted : IsPrediction s ws p es
+  pub few : length es ≤ limit
+
+-- edges that need no passive edge were put behind the old ones
+pub record IsFurther (s : Stored) (ws : List ℕ) (v : Shown) (limit : ℕ) (old : List Edge) (p : Prediction) (new : List Edge) : Type 0 where
+  pub stands : (k : ℕ) → Stands (judge s) (rules_of s) ws old k [] → Stands (judge s) (rules_of s) ws new k []
+  pub ready : IsReady (rules_of s) s v limit new
+  pub predicted : IsPrediction s ws p new
+  pub grown : (ys : List Edge) × (new ≡ old ++ ys)
+  pub kept : (worked : ℕ) → worked ≤ length old → take worked (derivations new) ≡ take worked (derivations old)
+  pub few : length new ≤ limit

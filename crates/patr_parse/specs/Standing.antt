@@ -1,8 +1,7 @@
 -- Where the rounds of a sentence stand.
 use Rattle.std.specs.Prelude.{◌≡◌, ℕ, ◌+◌, ◌≤◌, List, ◌++◌, take, length, Some, slice_get}
-use Rattle.patr_lists.specs.Members.{IsIn}
 use Rattle.patr_model.specs.Derivation.{Rules, Derivation, Extend}
-use Rattle.patr_model.specs.Chart.{Judgement}
+use Rattle.patr_model.specs.Chart.{Judgement, IsIn}
 use Rattle.patr_model.specs.Rounds.{IsWorked}
 use Rattle.patr_chart.specs.declared.edge.Back.{Back}
 use Rattle.patr_chart.specs.declared.edge.Edge.{Edge}
@@ -23,12 +22,6 @@ ArePushable words es ys = (n : ℕ) (e : Edge) → slice_get ys n ≡ Some e →
 -- the same, and each is made of two of them
 abbrev pub MayBePushed : ℕ → List Edge → List Edge → Type 0
 MayBePushed words es ys = (n : ℕ) (e : Edge) → slice_get ys n ≡ Some e → IsEdgeAfter words es e × (b : Back) × (e.back ≡ Some b)
-
--- what a round made under a limit
-pub record RoundGave (limit words : ℕ) (es ys : List Edge) : Type 0 where
-  pub ground : MayBePushed words es ys
-  pub small : AreSmall limit (made_by es ys)
-  pub few : length es + length ys ≤ limit
 
 -- an active edge, and a passive one as its last daughter
 abbrev pub IsMadeOfTwo : Derivation → Type 0

@@ -1,8 +1,7 @@
 -- What a task decides: the pairs of an edge with its partners.
 use Rattle.std.specs.Prelude.{◌≡◌, ◌⊎◌, ℕ, ◌<◌, ◌≤◌, Bool, cond, List, [], ◌∷◌, ◌++◌, take, map, Some, slice_get}
-use Rattle.patr_lists.specs.Members.{NoRepeats, IsIn}
 use Rattle.patr_model.specs.Derivation.{Rules, Derivation, Extend, size}
-use Rattle.patr_model.specs.Chart.{Judgement}
+use Rattle.patr_model.specs.Chart.{Judgement, IsIn, EachOnce}
 use Rattle.patr_model.specs.Rounds.{IsPair, IsYield}
 use Rattle.patr_arena.specs.Shown.{Shown, IsShown, IsHeld}
 use Rattle.patr_arena.specs.Blocks.{Extends}
@@ -26,6 +25,11 @@ ArePartners es a p = (x : Edge) × (y : Edge) × (slice_get es a ≡ Some x) × 
 -- edge k with edge j, where edge k is passive or not
 abbrev pub pair : Bool → List Edge → ℕ → ℕ → Derivation
 pair passive es k j = cond passive (Extend (tree es j) (tree es k)) (Extend (tree es k) (tree es j))
+
+-- the number is one of the list
+abbrev pub Has : List ℕ → ℕ → Type 0
+Has [] j = ⊥
+Has (x ∷ xs) j = (x ≡ j) ⊎ Has xs j
 
 -- the derivations of edges that were made, by the edges of the chart
 abbrev pub made_by : List Edge → List Edge → List Derivation
@@ -51,7 +55,7 @@ ItemsAreHeld s v = (n : ℕ) (i : RuleItem) → slice_get s.rules n ≡ Some i �
 -- what a task needs of the chart and the nodes
 pub record IsReady (g : Rules) (s : Stored) (v : Shown) (limit : ℕ) (es : List Edge) : Type 0 where
   pub fit : KindsFit g es
-  pub once : NoRepeats (derivations es)
+  pub once : EachOnce (derivations es)
   pub sound : AreSound g s v es
   pub items : ItemsAreHeld s v
   pub small : AreSmall limit (derivations es)
@@ -60,26 +64,6 @@ pub record IsReady (g : Rules) (s : Stored) (v : Shown) (limit : ℕ) (es : List
 abbrev pub AreWaiting : Rules → Stored → Shown → List Edge → List Edge → Type 0
 AreWaiting g s v es ys = (n : ℕ) (e : Edge) → slice_get ys n ≡ Some e → IsSoundEdge g s v es (derived (derivations es) e) e
 
--- one more pair was decided
-abbrev pub IsDecided : (Derivation → Type 0) → ℕ → List Edge → Derivation → List Edge → List Edge → Type 0
-IsDecided Q words es t old new = ((new ≡ old) × (Q t → ⊥)) ⊎ ((e : Edge) × (new ≡ old ++ e ∷ []) × IsEdgeAfter words es e × (derived (derivations es) e ≡ t) × Q t)
-
--- the edges made of edge k with these others
-pub record AreMade (Q : Derivation → Type 0) (words : ℕ) (es : List Edge) (b : Bool) (k : ℕ) (js : List ℕ) (ys : List Edge) : Type 0 where
-  pub once : NoRepeats (made_by es ys)
-  pub ground : (n : ℕ) (e : Edge) → slice_get ys n ≡ Some e → IsEdgeAfter words es e
-  pub pairs : (t : Derivation) → IsIn (made_by es ys) t → (j : ℕ) × IsIn js j × (t ≡ pair b es k j) × Q t
-  pub every : (j : ℕ) → IsIn js j → Q (pair b es k j) → IsIn (made_by es ys) (pair b es k j)
-
 -- these derivations are edges, and no rule is predicted
 abbrev pub by_edges : (Derivation → Type 0) → Judgement
 by_edges Q = record { IsEdge = Q; MayFollow = λ a b. ⊥; IsWhole = λ t. ⊥ }
-
--- the edges that task k gives
-pub record IsTask (Q : Derivation → Type 0) (g : Rules) (words : ℕ) (es : List Edge) (k : ℕ) (ys : List Edge) : Type 0 where
-  pub ground : (n : ℕ) (e : Edge) → slice_get ys n ≡ Some e → IsEdgeAfter words es e
-  pub yields : IsYield (by_edges Q) g (take k (derivations es)) (tree es k) (made_by es ys)
-
--- they were put behind what was there
-abbrev pub TaskGave : (Derivation → Type 0) → Rules → ℕ → List Edge → ℕ → List Edge → List Edge → Type 0
-TaskGave Q g words es k old new = (ys : List Edge) × (new ≡ old ++ ys) × IsTask Q g words es k ys

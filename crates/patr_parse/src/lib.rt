@@ -3,13 +3,13 @@
 
 mod analyses;
 mod closing;
-mod join;
+mod draft;
 mod parse;
 mod parsed;
 mod prediction;
 mod rounds;
 mod sentence;
-mod task;
+mod work;
 
 pub use parse::{ParseCause, parse_alone, parse_words};
 pub use parsed::Parsed;

@@ -6,10 +6,12 @@ ghost use Rattle.patr_parse.specs.Sentences.{IsParsed, IsRefusedFor};
 
 use crate::analyses::analyses_of;
 use crate::closing::close;
-use crate::join::Work;
 use crate::parsed::Parsed;
+use crate::rounds::Closing;
 use crate::sentence::{numbers_of, words_of};
+use crate::work::Local;
 use patr_arena::{SentenceArena, View};
+use patr_chart::Chart;
 use patr_library::Library;
 use patr_pool::Gate;
 use patr_scratch::Scratch;
@@ -68,6 +70,17 @@ pub fn parse_alone<'a, G: Gate, L: Ledger>(
     )
 }
 
+/// So many steps more.
+fn count<L: Ledger>(steps: &mut Steps<L>, times: u64)
+    ensures { steps.new ≡ steps.old + times }
+{
+    let mut left = times;
+    while left > 0 {
+        steps.tick();
+        left -= 1;
+    }
+}
+
 /// The closed chart of these words and its analyses, found by one worker. `limit` is the most edges that the chart may
 /// have. Unifications mark nodes in `scratch`, whose room one sentence leaves to the next.
 ///
@@ -100,25 +113,31 @@ pub fn parse_words<'a, G: Gate, L: Ledger>(
     };
     // the items are those of the grammar and the lexicon
     let _rules = library.rules();
-    let mut work = Work {
+    let mut closing = Closing {
+        chart: Chart::new(alloc, numbers.len() as u32)?,
         arena: SentenceArena::over(alloc, library.arena()),
-        scratch: mem::replace(scratch, Scratch::new(alloc)),
+        local: Local {
+            scratch: mem::replace(scratch, Scratch::new(alloc)),
+            decided: 0,
+        },
     };
-    let closed = close(alloc, library, &numbers, limit, &mut work, gate, steps);
-    let Work {
+    let closed = close(alloc, library, &numbers, limit, &mut closing, gate);
+    let Closing {
+        chart,
         arena,
-        scratch: used,
-    } = work;
-    *scratch = used;
-    let Some(closed) = closed? else {
+        local,
+    } = closing;
+    *scratch = local.scratch;
+    if !closed? {
         return Err(Fault::Refused(ParseCause::TooManyEdges { limit }));
-    };
+    }
     let view = View::of(&arena);
-    let analyses = analyses_of(alloc, library, &view, &numbers, &closed.chart)?;
+    let analyses = analyses_of(alloc, library, &view, &numbers, &chart)?;
+    count(steps, local.decided);
     Ok(Parsed {
-        chart: closed.chart,
+        chart,
         analyses,
         arena,
-        decided: closed.decided,
+        decided: local.decided,
     })
 }

@@ -13,9 +13,10 @@ ghost use Rattle.patr_parse.specs.Found.{AreSound};
 ghost use Rattle.patr_parse.specs.Tasks.{judge, IsOver, IsReady};
 ghost use Rattle.patr_parse.specs.Standing.{Stands};
 ghost use Rattle.patr_parse.specs.Begun.{begun, leaf, leaves_at, leaves_from, begun_at, begun_unless, begun_by, next_of, is_marked, HasMark, HasMarkOf, IsAloneEdge, ArePushed};
-ghost use Rattle.patr_parse.specs.Predicting.{IsPrediction};
+ghost use Rattle.patr_parse.specs.Predicting.{IsFurther, IsInitialized, IsPrediction};
 
-use crate::join::{next_kind, root_for};
+use crate::draft::root_for;
+use crate::work::last_slot;
 use patr_arena::{Memory, SentenceArena, Value, resolve_path};
 use patr_chart::{Chart, Edge, EdgeKind};
 use patr_library::Library;
@@ -178,28 +179,23 @@ fn push_words(
 
 /// Adds the rules of a category at a position, where that was not done. False where there would be more edges than the
 /// limit.
-fn expect(
+fn predict_category(
     library: &Library,
     arena: &SentenceArena<'_>,
-    category: Id,
-    at: u32,
+    mark: Mark,
     limit: u32,
     chart: &mut Chart,
     marks: &mut HashSet<Mark>,
 ) -> Result<bool, Memory>
     requires base { IsOver library.now (sentence_of arena.now) }
-    requires at { at ≤ chart.old.words }
+    requires at { mark.at ≤ chart.old.words }
     requires few { length chart.old.edges ≤ limit }
-    ensures pushed { IfOk result (λ done. ArePushed (rules_of library.now) library.now (sentence_of arena.now) limit chart.old.edges (begun_unless (is_marked marks.old.keys category.0 at) library.now category.0 at) chart.new.edges done) }
-    ensures marked { IfOk result (λ _. HasMark marks.old.keys marks.new.keys category.0 at) }
+    ensures pushed { IfOk result (λ done. ArePushed (rules_of library.now) library.now (sentence_of arena.now) limit chart.old.edges (begun_unless (is_marked marks.old.keys mark.category mark.at) library.now mark.category mark.at) chart.new.edges done) }
+    ensures marked { IfOk result (λ _. HasMark marks.old.keys marks.new.keys mark.category mark.at) }
     ensures words { IfOk result (λ done. chart.new.words ≡ chart.old.words) }
 {
-    let mark = Mark {
-        category: category.0,
-        at,
-    };
     if marks.insert(mark)? {
-        begin_rules(library, arena, category, at, limit, chart)
+        begin_rules(library, arena, Id(mark.category), mark.at, limit, chart)
     } else {
         Ok(true)
     }
@@ -215,7 +211,7 @@ fn next_category(library: &Library, arena: &SentenceArena<'_>, chart: &Chart, k:
     if edge.is_passive() {
         return None;
     }
-    let (_, slot) = next_kind(edge.kind);
+    let slot = last_slot(edge.kind.with_daughter());
     let Some(found) = resolve_path(arena, edge.root, &[slot, Symbols::CAT]) else {
         unreachable!()
     };
@@ -245,12 +241,15 @@ fn follow(
     let Some(category) = next_category(library, arena, chart, k) else {
         return Ok(true);
     };
-    let at = chart.edge(k).end;
-    expect(library, arena, category, at, limit, chart, marks)
+    let mark = Mark {
+        category: category.0,
+        at: chart.edge(k).end,
+    };
+    predict_category(library, arena, mark, limit, chart, marks)
 }
 
 /// Adds the entries of the words, and the rules of the start symbol. None where there would be more edges than the limit.
-pub(crate) fn begin(
+pub(crate) fn initialize(
     alloc: Global,
     library: &Library,
     arena: &SentenceArena<'_>,
@@ -259,15 +258,12 @@ pub(crate) fn begin(
     chart: &mut Chart,
 ) -> Result<Option<Prediction>, Memory>
     requires empty { chart.old.edges ≡ [] }
-    requires base { IsOver library.now (sentence_of arena.now) }
-    requires words { chart.old.words ≡ length words.now }
-    requires few_words { length words.now ≤ 256 }
-    requires stored { IsStored library.now }
-    ensures stands { IfOk result (λ begun. IfSome begun (λ prediction. Stands (judge library.now) (rules_of library.now) (map (λ (w : Id). w.0) words.now) chart.new.edges 0 [])) }
-    ensures sound { IfOk result (λ begun. IfSome begun (λ prediction. AreSound (rules_of library.now) library.now (sentence_of arena.now) chart.new.edges)) }
-    ensures predicted { IfOk result (λ begun. IfSome begun (λ prediction. IsPrediction library.now (map (λ (w : Id). w.0) words.now) prediction chart.new.edges)) }
-    ensures few { IfOk result (λ begun. IfSome begun (λ prediction. length chart.new.edges ≤ limit)) }
-    ensures more { IfOk result (λ begun. IfNone begun (HasMoreThan (judge library.now) (rules_of library.now) (map (λ (w : Id). w.0) words.now) limit)) }
+    requires base { IsOver library.now (sentence_of arena.now) × IsStored library.now }
+    requires words { (chart.old.words ≡ length words.now) × (length words.now ≤ 256) }
+    ensures initialized { IfOk result (λ begun. IfSome begun (λ prediction. IsInitialized library.now
+        (map (λ (w : Id). w.0) words.now) (sentence_of arena.now) limit prediction chart.new.edges)) }
+    ensures more { IfOk result (λ begun. IfNone begun (HasMoreThan (judge library.now)
+        (rules_of library.now) (map (λ (w : Id). w.0) words.now) limit)) }
     ensures words { IfOk result (λ begun. chart.new.words ≡ chart.old.words) }
 {
     if !push_words(library, arena, words, limit, chart)? {
@@ -294,19 +290,21 @@ pub(crate) fn predict(
     chart: &mut Chart,
     prediction: &mut Prediction,
 ) -> Result<bool, Memory>
-    requires base { IsOver library.now (sentence_of arena.now) }
-    requires stored { IsStored library.now }
-    requires stands { (k : ℕ) × Stands (judge library.now) (rules_of library.now) (map (λ (w : Id). w.0) words.now) chart.old.edges k [] }
-    requires ready { IsReady (rules_of library.now) library.now (sentence_of arena.now) limit chart.old.edges }
-    requires predicted { IsPrediction library.now (map (λ (w : Id). w.0) words.now) prediction.old chart.old.edges }
+    requires base { IsOver library.now (sentence_of arena.now) × IsStored library.now }
+    requires stands { (k : ℕ) × Stands (judge library.now) (rules_of library.now)
+        (map (λ (w : Id). w.0) words.now) chart.old.edges k [] }
+    requires ready { IsReady (rules_of library.now) library.now (sentence_of arena.now) limit
+        chart.old.edges }
+    requires predicted { IsPrediction library.now (map (λ (w : Id). w.0) words.now) prediction.old
+        chart.old.edges }
     requires few { length chart.old.edges ≤ limit }
-    ensures stands { IfOk result (λ done. done ≡ true → (k : ℕ) → Stands (judge library.now) (rules_of library.now) (map (λ (w : Id). w.0) words.now) chart.old.edges k [] → Stands (judge library.now) (rules_of library.now) (map (λ (w : Id). w.0) words.now) chart.new.edges k []) }
-    ensures ready { IfOk result (λ done. done ≡ true → IsReady (rules_of library.now) library.now (sentence_of arena.now) limit chart.new.edges) }
-    ensures complete { IfOk result (λ done. done ≡ true → IsPredicted (judge library.now) (rules_of library.now) (map (λ (w : Id). w.0) words.now) (derivations chart.new.edges)) }
-    ensures predicted { IfOk result (λ done. done ≡ true → IsPrediction library.now (map (λ (w : Id). w.0) words.now) prediction.new chart.new.edges) }
-    ensures kept { IfOk result (λ done. done ≡ true → (ys : List Edge) × (chart.new.edges ≡ chart.old.edges ++ ys) × ((worked : ℕ) → worked ≤ length chart.old.edges → take worked (derivations chart.new.edges) ≡ take worked (derivations chart.old.edges))) }
-    ensures few { IfOk result (λ done. done ≡ true → length chart.new.edges ≤ limit) }
-    ensures more { IfOk result (λ done. done ≡ false → HasMoreThan (judge library.now) (rules_of library.now) (map (λ (w : Id). w.0) words.now) limit) }
+    ensures predicted { IfOk result (λ done. done ≡ true → IsFurther library.now
+        (map (λ (w : Id). w.0) words.now) (sentence_of arena.now) limit chart.old.edges prediction.new
+        chart.new.edges) }
+    ensures complete { IfOk result (λ done. done ≡ true → IsPredicted (judge library.now)
+        (rules_of library.now) (map (λ (w : Id). w.0) words.now) (derivations chart.new.edges)) }
+    ensures more { IfOk result (λ done. done ≡ false → HasMoreThan (judge library.now)
+        (rules_of library.now) (map (λ (w : Id). w.0) words.now) limit) }
     ensures words { IfOk result (λ done. chart.new.words ≡ chart.old.words) }
 {
     while prediction.seen < chart.len() {

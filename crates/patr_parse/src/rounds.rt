@@ -1,116 +1,132 @@
 //! A round: the tasks of the edges that no round had, and what they make.
-ghost use Rattle.std.specs.Prelude.{◌≡◌, ℕ, ◌+◌, ◌*◌, ◌≤◌, true, false, List, [], ◌++◌, length, take, IfOk, IfSome, IfNone};
+ghost use Rattle.std.specs.Prelude.{◌≡◌, ℕ, List, ◌*◌, ◌≤◌, ◌++◌, true, false, [], length, not, IfOk, IfSome, IfNone};
 ghost use Rattle.patr_model.specs.Chart.{HasMoreThan};
-ghost use Rattle.patr_model.specs.Rounds.{HasPairs};
-ghost use Rattle.patr_arena.specs.Blocks.{Extends};
 ghost use Rattle.patr_arena.specs.Sentences.{sentence_of};
-ghost use Rattle.patr_chart.specs.Charted.{derivations};
 ghost use Rattle.patr_library.specs.Stored.{rules_of};
-ghost use Rattle.patr_parse.specs.Found.{AreSound};
-ghost use Rattle.patr_parse.specs.Tasks.{judge, AreWaiting, IsReady};
-ghost use Rattle.patr_parse.specs.Standing.{Stands, ArePushable, RoundGave, IsRound};
+ghost use Rattle.patr_parse.specs.Drafts.{AreDrafts, ArePlaced, drafts_of, is_stop};
+ghost use Rattle.patr_parse.specs.Rounds.{IsCompleted, IsRoundAt};
+ghost use Rattle.patr_parse.specs.Standing.{Stands};
+ghost use Rattle.patr_parse.specs.Tasks.{judge, IsReady};
 
-use crate::join::Work;
-use crate::task::work_task;
-use patr_arena::Memory;
-use patr_chart::{Chart, Edge};
+use crate::draft::{Draft, push_draft};
+use crate::work::{Local, Outcome, RoundWork};
+use patr_arena::{Memory, Nodes, SentenceArena};
+use patr_chart::Chart;
 use patr_library::Library;
 use patr_pool::Gate;
-use patr_unify::Steps;
-use std::alloc::{AllocError, Global};
-use std::sync::ledger::Ledger;
+use std::alloc::Global;
 
-/// What the edges from `worked` on make with their partners; `decided` rises by the number of the pairs, which are no more
-/// for an edge than there are edges. None where there are more edges than the limit, or one with more nodes.
-fn work_round<G: Gate, L: Ledger>(
+/// A chart while it is closed, with the nodes of its edges and the one worker.
+#[derive(Drop)]
+pub(crate) struct Closing<'a> {
+    pub(crate) chart: Chart,
+    pub(crate) arena: SentenceArena<'a>,
+    pub(crate) local: Local,
+}
+
+/// Puts what a task made behind the other drafts. False where it stopped.
+fn gather(outcome: Outcome<Vec<Draft>>, made: &mut Vec<Draft>) -> Result<bool, Memory>
+    ensures made { IfOk result (λ _. made.new.items ≡ made.old.items ++ drafts_of outcome) }
+    ensures goes_on { IfOk result (λ going. going ≡ not (is_stop outcome)) }
+{
+    match outcome {
+        Outcome::Nothing => Ok(true),
+        Outcome::Stop => Ok(false),
+        Outcome::Made(mut drafts) => {
+            made.append(&mut drafts)?;
+            Ok(true)
+        }
+    }
+}
+
+/// Drafts what the edges of a round make with their partners. None where there are more edges than the limit, or one
+/// with more nodes.
+fn draft_all<N: Nodes, G: Gate>(
     alloc: Global,
-    library: &Library,
-    chart: &Chart,
-    limit: u32,
-    worked: u32,
-    decided: &mut u64,
-    work: &mut Work<'_>,
+    work: &RoundWork<'_, N>,
+    local: &mut Local,
     gate: &G,
-    steps: &mut Steps<L>,
-) -> Result<Option<Vec<Edge>>, Memory>
-    requires ready { IsReady (rules_of library.now) library.now (sentence_of work.old.arena) limit chart.now.edges }
-    requires limit { limit ≤ 200000 }
-    requires few { length chart.now.edges ≤ limit }
-    requires within { worked ≤ length chart.now.edges }
-    requires count { decided.old ≤ worked * 200000 }
-    ensures stands { (ws : List ℕ) → Stands (judge library.now) (rules_of library.now) ws chart.now.edges worked [] → IfOk result (λ found. IfSome found (λ made. Stands (judge library.now) (rules_of library.now) ws chart.now.edges (length chart.now.edges) made.items)) }
-    ensures gave { IfOk result (λ found. IfSome found (λ made. RoundGave limit chart.now.words chart.now.edges made.items)) }
-    ensures more { (ws : List ℕ) → Stands (judge library.now) (rules_of library.now) ws chart.now.edges worked [] → IfOk result (λ found. IfNone found (HasMoreThan (judge library.now) (rules_of library.now) ws limit)) }
-    ensures waiting { IfOk result (λ found. IfSome found (λ made. AreWaiting (rules_of library.now) library.now (sentence_of work.new.arena) chart.now.edges made.items)) }
-    ensures longer { IfOk result (λ found. Extends (sentence_of work.old.arena) (sentence_of work.new.arena)) }
-    ensures decided { HasPairs (rules_of library.now) (take worked (derivations chart.now.edges)) decided.old → IfOk result (λ found. IfSome found (λ made. HasPairs (rules_of library.now) (derivations chart.now.edges) decided.new)) }
-    ensures steps { IfOk result (λ found. IfSome found (λ made. steps.new + decided.old ≡ steps.old + decided.new)) }
-    ensures count { IfOk result (λ found. decided.new ≤ length chart.now.edges * 200000) }
+) -> Result<Option<Vec<Draft>>, Memory>
+    requires ready { IsReady (rules_of work.now.library.now) work.now.library.now
+        (N.shown work.now.nodes.now) work.now.limit work.now.chart.now.edges }
+    requires limit { (work.now.limit ≤ 200000) × (length work.now.chart.now.edges ≤ work.now.limit) }
+    requires within { work.now.worked ≤ length work.now.chart.now.edges }
+    requires count { local.old.decided ≤ work.now.worked * 200000 }
+    ensures gave { IfOk result (λ found. IfSome found (λ made. IsRoundAt work.now.library.now
+        (N.shown work.now.nodes.now) work.now.chart.now work.now.limit work.now.worked local.old.decided
+        (length work.now.chart.now.edges) local.new.decided made.items)) }
+    ensures more { (ws : List ℕ) → Stands (judge work.now.library.now) (rules_of work.now.library.now) ws
+            work.now.chart.now.edges work.now.worked []
+        → IfOk result (λ found. IfNone found (HasMoreThan (judge work.now.library.now)
+            (rules_of work.now.library.now) ws work.now.limit)) }
 {
     let mut made = Vec::new(alloc);
-    let end = chart.len();
-    for k in worked..end {
-        gate.pass(0, (k - worked) as u64, (end - worked) as u64);
-        if !work_task(alloc, library, chart, limit, k, &mut made, work, steps)? {
+    let end = work.chart.len();
+    let of = (end - work.worked) as u64;
+    let room = (work.limit - end) as usize;
+    for task in 0..of {
+        gate.pass(0, task, of);
+        let outcome = work.one(alloc, 0, local, task)?;
+        if !gather(outcome, &mut made)? {
             return Ok(None);
         }
-        if made.len() > (limit - end) as usize {
+        if made.len() > room {
             return Ok(None);
         }
-        let partners = chart.partners(k);
-        *decided += partners.len() as u64;
     }
     Ok(Some(made))
 }
 
-/// Puts edges behind the others.
-fn push_all(chart: &mut Chart, made: &[Edge]) -> Result<(), Memory>
-    requires { ArePushable chart.old.words chart.old.edges made.now }
-    ensures edges { IfOk result (λ _. chart.new.edges ≡ chart.old.edges ++ made.now) }
+/// Puts drafts behind a chart's edges, and their nodes behind those by which they were made.
+fn push_all(
+    chart: &mut Chart,
+    arena: &mut SentenceArena<'_>,
+    drafts: Vec<Draft>,
+) -> Result<(), Memory>
+    requires { (limit : ℕ) × AreDrafts (sentence_of arena.old) chart.old.words chart.old.edges limit
+        drafts.items }
+    ensures placed { IfOk result (λ _. ArePlaced (sentence_of arena.old) (sentence_of arena.new)
+        drafts.items chart.old.edges chart.new.edges) }
     ensures words { IfOk result (λ _. chart.new.words ≡ chart.old.words) }
 {
-    for edge in made {
-        let Ok(_) = chart.push_edge(*edge) else {
-            return Err(AllocError);
-        };
+    for draft in drafts {
+        push_draft(chart, arena, draft)?;
     }
     Ok(())
 }
 
-/// Works the edges from `worked` on, and puts what they make behind the others; `decided` rises by the number of the
-/// pairs. False where there are more edges than the limit, or one with more nodes.
-pub(crate) fn run_round<G: Gate, L: Ledger>(
+/// Works the edges from `worked` on, and puts what they make with their partners behind the others. False where there
+/// are more edges than the limit, or one with more nodes.
+pub(crate) fn complete<G: Gate>(
     alloc: Global,
     library: &Library,
-    chart: &mut Chart,
     limit: u32,
     worked: u32,
-    decided: &mut u64,
-    work: &mut Work<'_>,
+    closing: &mut Closing<'_>,
     gate: &G,
-    steps: &mut Steps<L>,
 ) -> Result<bool, Memory>
-    requires ready { IsReady (rules_of library.now) library.now (sentence_of work.old.arena) limit chart.old.edges }
-    requires limit { limit ≤ 200000 }
-    requires few { length chart.old.edges ≤ limit }
-    requires within { worked ≤ length chart.old.edges }
-    requires count { decided.old ≤ worked * 200000 }
-    ensures stands { (ws : List ℕ) → Stands (judge library.now) (rules_of library.now) ws chart.old.edges worked [] → IfOk result (λ done. done ≡ true → Stands (judge library.now) (rules_of library.now) ws chart.new.edges (length chart.old.edges) []) }
-    ensures round { IfOk result (λ done. done ≡ true → IsRound limit chart.old.edges chart.new.edges) }
-    ensures more { (ws : List ℕ) → Stands (judge library.now) (rules_of library.now) ws chart.old.edges worked [] → IfOk result (λ done. done ≡ false → HasMoreThan (judge library.now) (rules_of library.now) ws limit) }
-    ensures sound { IfOk result (λ done. done ≡ true → AreSound (rules_of library.now) library.now (sentence_of work.new.arena) chart.new.edges) }
-    ensures longer { IfOk result (λ done. Extends (sentence_of work.old.arena) (sentence_of work.new.arena)) }
-    ensures decided { HasPairs (rules_of library.now) (take worked (derivations chart.old.edges)) decided.old → IfOk result (λ done. done ≡ true → HasPairs (rules_of library.now) (derivations chart.old.edges) decided.new) }
-    ensures steps { IfOk result (λ done. done ≡ true → steps.new + decided.old ≡ steps.old + decided.new) }
-    ensures words { IfOk result (λ done. done ≡ true → chart.new.words ≡ chart.old.words) }
-    ensures count { IfOk result (λ done. decided.new ≤ length chart.old.edges * 200000) }
+    requires ready { IsReady (rules_of library.now) library.now (sentence_of closing.old.arena) limit
+        closing.old.chart.edges }
+    requires limit { (limit ≤ 200000) × (length closing.old.chart.edges ≤ limit) }
+    requires within { worked ≤ length closing.old.chart.edges }
+    requires count { closing.old.local.decided ≤ worked * 200000 }
+    ensures completed { IfOk result (λ done. done ≡ true
+        → IsCompleted library.now limit worked closing.old closing.new) }
+    ensures more { (ws : List ℕ) → Stands (judge library.now) (rules_of library.now) ws
+            closing.old.chart.edges worked []
+        → IfOk result (λ done. done ≡ false
+            → HasMoreThan (judge library.now) (rules_of library.now) ws limit) }
 {
-    let Some(made) = work_round(
-        alloc, library, chart, limit, worked, decided, work, gate, steps,
-    )?
-    else {
+    let work = RoundWork {
+        library,
+        chart: &closing.chart,
+        nodes: &closing.arena,
+        limit,
+        worked,
+    };
+    let Some(drafts) = draft_all(alloc, &work, &mut closing.local, gate)? else {
         return Ok(false);
     };
-    push_all(chart, &made)?;
+    push_all(&mut closing.chart, &mut closing.arena, drafts)?;
     Ok(true)
 }

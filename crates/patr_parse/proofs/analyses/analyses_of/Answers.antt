@@ -2,13 +2,9 @@ use Rattle.std.proofs.Common.{◌≡◌, ℕ, ◌∙◌, List, length, map, sym,
 use Rattle.std.specs.List.Sorted.{IsSorted}
 use Rattle.std.proofs.lemmas.List.{length-map}
 use Rattle.std.proofs.lemmas.Result.{IfOk-weaker}
-use Rattle.patr_lists.specs.Numbers.{places}
-use Rattle.patr_text.specs.declared.symbols.Id.{Id}
+use Rattle.patr_parse.proofs.Names.{Id, places, ids, view_of, keys, rules_of, AreAll, edge_of, is_whole}
 use Rattle.patr_model.proofs.StatedCategories.{are_built}
-use Rattle.patr_arena.specs.Paths.{ids}
-use Rattle.patr_arena.specs.Views.{view_of}
-use Rattle.patr_library.specs.Stored.{entries_of, grammar_of, keys, number, rules_of}
-use Rattle.patr_parse.specs.Analyses.{AreAll, edge_of, is_whole}
+use Rattle.patr_library.specs.Stored.{entries_of, grammar_of, number}
 use Rattle.patr_parse.proofs.Ordered.{analysis_cmp}
 use Rattle.patr_parse.proofs.AllAnalyses.{are_all}
 use Rattle.patr_parse.proofs.analyses.analyses_of.Goals as goal

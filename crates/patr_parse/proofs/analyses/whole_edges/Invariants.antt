@@ -1,9 +1,6 @@
 use Rattle.std.proofs.Common.{◌≡◌, ◌<◌, map, take}
 use Rattle.std.specs.List.{AllByRecursion}
-use Rattle.patr_lists.specs.Numbers.{places}
-use Rattle.patr_arena.specs.Views.{view_of}
-use Rattle.patr_chart.specs.Charted.{AreEdges}
-use Rattle.patr_parse.specs.Analyses.{HasKey, edge_of, is_whole}
+use Rattle.patr_parse.proofs.Names.{places, view_of, AreEdges, HasKey, edge_of, is_whole}
 use Rattle.patr_parse.proofs.analyses.whole_edges.Given as goal
 
 abbrev pub invariant-loop-number : goal.invariant-loop-number

@@ -1,4 +1,4 @@
-use Rattle.patr_arena.specs.Sentences.{sentence_of}
+use Rattle.patr_parse.proofs.Names.{sentence_of}
 use Rattle.patr_parse.proofs.ItemEdges.{begun_alone, begun_mother}
 use Rattle.patr_parse.proofs.Tasks.{item_at}
 use Rattle.patr_parse.proofs.prediction.begin_edge.Goals as goal

@@ -1,11 +1,7 @@
 use Rattle.std.proofs.Common.{◌≡◌, Option, Some, None, ℕ, [], refl, sym, ap, ◌∙◌, subst, true, append-nil, IfOk}
 use Rattle.std.specs.Option.{option_map}
-use Rattle.patr_text.specs.declared.symbols.Id.{Id}
-use Rattle.patr_model.specs.Derivation.{end}
-use Rattle.patr_arena.specs.Sentences.{sentence_of}
+use Rattle.patr_parse.proofs.Names.{Id, end, sentence_of, rules_of, ArePushed, HasMarkOf, begun_by, next_of}
 use Rattle.patr_chart.specs.Charted.{tree}
-use Rattle.patr_library.specs.Stored.{rules_of}
-use Rattle.patr_parse.specs.Begun.{ArePushed, HasMarkOf, begun_by, next_of}
 use Rattle.patr_parse.proofs.prediction.follow.Goals as goal
 
 pub returns-in_default-clause-pushed : goal.returns-in_default-clause-pushed
@@ -24,8 +20,8 @@ returns-in_default-clause-marked c =
     let none : None ≡ next_of (rules_of c.args.library.now) t = sym (ap (λ o. option_map (λ (x : Id). x.0) o) c.in_default.is) ∙ c.next_category.ensures in
     subst (λ (o : Option ℕ). HasMarkOf c.args.marks.now.keys c.args.marks.now.keys o (end t)) none refl
 
-pub expect-requires-clause-at : goal.expect-requires-clause-at
-expect-requires-clause-at c = (c.edge.ensures.edges c.args.k c.edge.result.now c.edge.ensures.there).within
+pub predict_category-requires-clause-at : goal.predict_category-requires-clause-at
+predict_category-requires-clause-at c = (c.edge.ensures.edges c.args.k c.edge.result.now c.edge.ensures.there).within
 
 pub returns-clause-pushed : goal.returns-clause-pushed
 returns-clause-pushed c =
@@ -36,8 +32,8 @@ returns-clause-pushed c =
     let t = tree es c.args.k in
     let marks = c.args.marks.now.keys in
     let some : Some c.in-Some.category.0 ≡ next_of r t = sym (ap (λ o. option_map (λ (x : Id). x.0) o) c.in-Some.is) ∙ c.next_category.ensures in
-    subst (λ (o : Option ℕ). IfOk c.expect.result (λ done. ArePushed r s v c.args.limit es (begun_by marks s o (end t)) c.expect.new.chart.edges done)) some
-    (subst (λ (i : ℕ). IfOk c.expect.result (λ done. ArePushed r s v c.args.limit es (begun_by marks s (Some c.in-Some.category.0) i) c.expect.new.chart.edges done)) (sym c.edge.ensures.derived.1) c.expect.ensures.pushed)
+    subst (λ (o : Option ℕ). IfOk c.predict_category.result (λ done. ArePushed r s v c.args.limit es (begun_by marks s o (end t)) c.predict_category.new.chart.edges done)) some
+    (subst (λ (i : ℕ). IfOk c.predict_category.result (λ done. ArePushed r s v c.args.limit es (begun_by marks s (Some c.in-Some.category.0) i) c.predict_category.new.chart.edges done)) (sym c.edge.ensures.derived.1) c.predict_category.ensures.pushed)
 
 pub returns-clause-marked : goal.returns-clause-marked
 returns-clause-marked c =
@@ -45,5 +41,5 @@ returns-clause-marked c =
     let t = tree c.args.chart.now.edges c.args.k in
     let marks = c.args.marks.now.keys in
     let some : Some c.in-Some.category.0 ≡ next_of r t = sym (ap (λ o. option_map (λ (x : Id). x.0) o) c.in-Some.is) ∙ c.next_category.ensures in
-    subst (λ (o : Option ℕ). IfOk c.expect.result (λ _. HasMarkOf marks c.expect.new.marks.keys o (end t))) some
-    (subst (λ (i : ℕ). IfOk c.expect.result (λ _. HasMarkOf marks c.expect.new.marks.keys (Some c.in-Some.category.0) i)) (sym c.edge.ensures.derived.1) c.expect.ensures.marked)
+    subst (λ (o : Option ℕ). IfOk c.predict_category.result (λ _. HasMarkOf marks c.predict_category.new.marks.keys o (end t))) some
+    (subst (λ (i : ℕ). IfOk c.predict_category.result (λ _. HasMarkOf marks c.predict_category.new.marks.keys (Some c.in-Some.category.0) i)) (sym c.edge.ensures.derived.1) c.predict_category.ensures.marked)

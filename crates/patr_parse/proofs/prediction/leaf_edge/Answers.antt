@@ -1,4 +1,4 @@
-use Rattle.patr_arena.specs.Sentences.{sentence_of}
+use Rattle.patr_parse.proofs.Names.{sentence_of}
 use Rattle.patr_parse.proofs.ItemEdges.{leaf_alone}
 use Rattle.patr_parse.proofs.Tasks.{item_at}
 use Rattle.patr_parse.proofs.prediction.leaf_edge.Goals as goal

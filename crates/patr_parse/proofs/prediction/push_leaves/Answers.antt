@@ -1,9 +1,7 @@
-use Rattle.std.proofs.Common.{◌≡◌, ◌<◌, ◌+◌, true, false, length, map, take, refl, ap, ◌∙◌, subst, arith, rules}
-use Rattle.std.proofs.Math.Seq.{take-length}
-use Rattle.patr_arena.specs.Sentences.{sentence_of}
-use Rattle.patr_library.specs.Stored.{rules_of, is_of_word}
-use Rattle.patr_parse.specs.Begun.{leaf, leaves_at}
-use Rattle.patr_parse.proofs.Pushed.{Behind, behind_none, behind_next, no_next, after_alone, placed_below}
+use Rattle.std.proofs.Common.{◌≡◌, ◌<◌, ◌+◌, true, false, length, map, refl, ◌∙◌, subst, arith, rules}
+use Rattle.patr_parse.proofs.Names.{sentence_of, rules_of, is_of_word}
+use Rattle.patr_parse.specs.Begun.{leaf}
+use Rattle.patr_parse.proofs.Pushed.{all_pushed, behind_none, behind_next, no_next, after_alone, placed_below}
 use Rattle.patr_parse.proofs.prediction.push_leaves.Goals as goal
 
 pub loop-number-init : goal.loop-number-init
@@ -22,14 +20,9 @@ push_within-requires c =
 pub returns-then-not-branch-clause-pushed : goal.returns-then-not-branch-clause-pushed
 returns-then-not-branch-clause-pushed c =
     let s = c.args.library.now in
-    let r = rules_of s in
-    let v = sentence_of c.args.arena.now in
-    let ns = c.items_of-number-items.result.now in
     let no' : c.in_ok-push_within.field-0 ≡ false = search rules in
-    let full : c.args.limit < length c.args.chart.now.edges + length (leaves_at s c.args.word.0 c.args.at) =
     subst (λ l. c.args.limit < length c.args.chart.now.edges + length (map (leaf s c.args.at) l)) c.items_of-number-items.ensures
-    (no_next r s v (leaf s c.args.at) ns c.loop-number.number-index (omega arith) c.args.limit c.args.chart.now.edges c.loop-number.chart.edges c.loop-number.invariant.pushed (c.in_ok-push_within.ensures.full no')) in
-    full
+    (no_next (rules_of s) s (sentence_of c.args.arena.now) (leaf s c.args.at) c.items_of-number-items.result.now c.loop-number.number-index (omega arith) c.args.limit c.args.chart.now.edges c.loop-number.chart.edges c.loop-number.invariant.pushed (c.in_ok-push_within.ensures.full no'))
 
 pub loop-number-preserved : goal.loop-number-preserved
 loop-number-preserved c =
@@ -48,10 +41,5 @@ loop-number-preserved c =
 pub returns-clause-pushed : goal.returns-clause-pushed
 returns-clause-pushed c =
     let s = c.args.library.now in
-    let r = rules_of s in
-    let v = sentence_of c.args.arena.now in
-    let ns = c.items_of-number-items.result.now in
-    let all : take c.loop-number.number-index ns ≡ ns = ap (λ n. take n ns) (let h : c.loop-number.number-index ≡ length ns = omega arith in h) ∙ take-length ns in
-    let b : Behind r s v c.args.chart.now.edges (leaves_at s c.args.word.0 c.args.at) c.loop-number.chart.edges =
-    subst (λ l. Behind r s v c.args.chart.now.edges (map (leaf s c.args.at) l) c.loop-number.chart.edges) (all ∙ c.items_of-number-items.ensures) c.loop-number.invariant.pushed in
-    (b.0, b.1, b.2, c.loop-number.invariant.few)
+    all_pushed (rules_of s) s (sentence_of c.args.arena.now) (leaf s c.args.at) c.items_of-number-items.result.now _ c.items_of-number-items.ensures c.loop-number.number-index (omega arith)
+    c.args.limit c.args.chart.now.edges c.loop-number.chart.edges c.loop-number.invariant.pushed c.loop-number.invariant.few

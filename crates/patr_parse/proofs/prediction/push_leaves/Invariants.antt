@@ -1,9 +1,6 @@
 use Rattle.std.proofs.Common.{◌≡◌, ◌≤◌, ◌++◌, List, length, map, take}
-use Rattle.patr_model.specs.Renaming.{Each}
-use Rattle.patr_arena.specs.Sentences.{sentence_of}
-use Rattle.patr_chart.specs.declared.edge.Edge.{Edge}
-use Rattle.patr_library.specs.Stored.{rules_of}
-use Rattle.patr_parse.specs.Begun.{leaf, IsAloneEdge}
+use Rattle.patr_parse.proofs.Names.{Each, sentence_of, Edge, rules_of, IsAloneEdge}
+use Rattle.patr_parse.specs.Begun.{leaf}
 use Rattle.patr_parse.proofs.prediction.push_leaves.Given as goal
 
 abbrev pub invariant-loop-number : goal.invariant-loop-number

@@ -1,8 +1,6 @@
 use Rattle.std.proofs.Common.{◌≡◌, ◌<◌, ◌+◌, true, length, take, get_or, refl, ap, ◌∙◌, subst, arith, length-append}
 use Rattle.std.proofs.Math.Seq.{take-length}
-use Rattle.patr_arena.specs.Sentences.{sentence_of}
-use Rattle.patr_library.specs.Stored.{rules_of}
-use Rattle.patr_parse.specs.Begun.{leaves_at, leaves_from, ArePushed}
+use Rattle.patr_parse.proofs.Names.{sentence_of, rules_of, leaves_at, leaves_from, ArePushed}
 use Rattle.patr_parse.proofs.Pushed.{numbers_of, Behind, behind_none, behind_append, behind_length, leaves_next, leaves_fit}
 use Rattle.patr_parse.proofs.prediction.push_words.Goals as goal
 

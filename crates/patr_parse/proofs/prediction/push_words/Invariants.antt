@@ -1,9 +1,5 @@
 use Rattle.std.proofs.Common.{◌≡◌, ◌≤◌, ◌++◌, List, length, take}
-use Rattle.patr_model.specs.Renaming.{Each}
-use Rattle.patr_arena.specs.Sentences.{sentence_of}
-use Rattle.patr_chart.specs.declared.edge.Edge.{Edge}
-use Rattle.patr_library.specs.Stored.{rules_of}
-use Rattle.patr_parse.specs.Begun.{leaves_from, IsAloneEdge}
+use Rattle.patr_parse.proofs.Names.{Each, sentence_of, Edge, rules_of, leaves_from, IsAloneEdge}
 use Rattle.patr_parse.proofs.Pushed.{numbers_of}
 use Rattle.patr_parse.proofs.prediction.push_words.Given as goal
 

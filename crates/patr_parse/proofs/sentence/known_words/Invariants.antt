@@ -1,6 +1,5 @@
 use Rattle.std.proofs.Common.{List, ℕ, map, Bor}
-use Rattle.patr_arena.specs.Paths.{ids}
-use Rattle.patr_parse.specs.Words.{AreKnownTo}
+use Rattle.patr_parse.proofs.Names.{ids, AreKnownTo}
 use Rattle.patr_parse.proofs.sentence.known_words.Given as goal
 
 abbrev pub invariant-loop-place : goal.invariant-loop-place

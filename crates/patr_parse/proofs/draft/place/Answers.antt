@@ -1,11 +1,7 @@
 use Rattle.std.proofs.Common.{sym, subst}
-use Rattle.patr_arena.specs.Sentences.{sentence_of}
-use Rattle.patr_arena.specs.Shown.{Shown, value_of}
-use Rattle.patr_unify.specs.Copying.{made_of}
-use Rattle.patr_chart.specs.Edges.{kind_passive}
-use Rattle.patr_parse.specs.Joining.{HasMother, IsRootBy}
+use Rattle.patr_parse.proofs.Names.{sentence_of, Shown, value_of, made_of, kind_passive, HasMother, IsRootBy}
 use Rattle.patr_parse.proofs.Placed.{value_placed}
-use Rattle.patr_parse.proofs.join.place.Goals as goal
+use Rattle.patr_parse.proofs.draft.place.Goals as goal
 
 pub root_for-requires-clause-mother : goal.root_for-requires-clause-mother
 root_for-requires-clause-mother c = λ passive.
