@@ -212,9 +212,11 @@ next_draft v w sv sw e words limit es all drafts xs ys d whole =
       old = λ n. all_old_still v w e (slice_index_or d.block n []) (h.made.old n);
       fits = (h.made.fits.0, old_ref_still v w e d.root h.made.fits.1);
       mother = λ q.
-          let m = h.mother q in
-          (moved f m.0, ap (λ x. arc (with_block w d.block).structure x 0) (ref_moved v w sv sw e d.block h.made.old d.root h.made.fits.1)
-          ∙ (arc_moved (length v.structure) (with_block v d.block).structure (with_block w d.block).structure f (home v w sv sw e d.block h.made.old) (block_moved v w sv sw e d.block h.made.old) (made_of v d.root) h.made.unifier.takes.held 0 ∙ ap (option_map (moved f)) m.1));
+          let m = h.mother q in (
+            moved f m.0,
+            ap (λ x. arc (with_block w d.block).structure x 0) (ref_moved v w sv sw e d.block h.made.old d.root h.made.fits.1)
+                ∙ (arc_moved (length v.structure) (with_block v d.block).structure (with_block w d.block).structure f (home v w sv sw e d.block h.made.old) (block_moved v w sv sw e d.block h.made.old) (made_of v d.root) h.made.unifier.takes.held 0 ∙ ap (option_map (moved f)) m.1),
+          );
       after = λ ys. after_more words es ys d.edge h.after;
     }
 

@@ -256,7 +256,7 @@ module _ (b : ℕ) (U W : Structure) (f h : ℕ → ℕ) (m : IsMoved b U W f h)
       right = λ n q free.
           let q' = reached_less S N s r n hr q in
           let at = to_big (Right n) q' n ((keeps small).right n q' (λ k on.
-              (let g = free k (reached_more S N s (Node n) k (reached_value S N s r n hr q') on) in (alone (Right k) (reached_on S r n k q' on) g.0, λ other. g.1 (reached_more S N s l k hl other))))) in
+          (let g = free k (reached_more S N s (Node n) k (reached_value S N s r n hr q') on) in (alone (Right k) (reached_on S r n k q' on) g.0, λ other. g.1 (reached_more S N s l k hl other))))) in
           at ∙ ap (λ j. Some (Node j)) (m.fixed n (omega (arith, short, reached_value S N s r n hr q')));
     }
 

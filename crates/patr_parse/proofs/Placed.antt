@@ -124,8 +124,8 @@ module _ (v w : Shown) (sv : IsShown v) (sw : IsShown w) (e : Extends v w) (node
       )
       | inr o ↦ (
         (let long = length-append w.structure (map (arcs_from w (length w.sizes)) nodes) in
-          let more = length-map nodes (arcs_from w (length w.sizes)) in
-          let at = ap place o.1 ∙ place_new o.0 in let below = o.2 in omega (arith, at, below, long, more)),
+            let more = length-map nodes (arcs_from w (length w.sizes)) in
+            let at = ap place o.1 ∙ place_new o.0 in let below = o.2 in omega (arith, at, below, long, more)),
         ap home (ap place o.1 ∙ place_new o.0) ∙ (home_new o.0 ∙ sym o.1),
       )
     ];

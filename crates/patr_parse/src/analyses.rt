@@ -60,7 +60,8 @@ fn whole_edges(
     category: Id,
 ) -> Result<Vec<Analysis>, Memory>
     requires { RootsAreHeld (view_of view.now) chart.now.edges }
-    ensures edges { IfOk result (λ found. map edge_of found.items ≡ places (is_whole (view_of view.now) end category.0) 0 chart.now.edges) }
+    ensures edges { IfOk result (λ found. map edge_of found.items ≡ places (is_whole (view_of
+        view.now) end category.0) 0 chart.now.edges) }
     ensures keys { IfOk result (λ found. AllByRecursion (HasKey chart.now.edges) found.items) }
     ensures chart { IfOk result (λ _. AreEdges chart.now.words chart.now.edges) }
 {
@@ -91,9 +92,11 @@ pub(crate) fn analyses_of(
 ) -> Result<Vec<u32>, Memory>
     requires short { length words.now ≤ 256 }
     requires stored { IsStored library.now }
-    requires chart { IsChart (solved (rules_of library.now) keys.cat) (rules_of library.now) (ids words.now) (derivations chart.now.edges) }
+    requires chart { IsChart (solved (rules_of library.now) keys.cat) (rules_of library.now) (ids
+        words.now) (derivations chart.now.edges) }
     requires edges { AreSound (rules_of library.now) library.now (view_of view.now) chart.now.edges }
-    ensures { IfOk result (λ found. AreAll (rules_of library.now) keys.cat (ids words.now) chart.now.edges found.items) }
+    ensures { IfOk result (λ found. AreAll (rules_of library.now) keys.cat (ids words.now)
+        chart.now.edges found.items) }
 {
     let end = words.len() as u32;
     let mut found = whole_edges(alloc, chart, view, end, library.grammar().start)?;

@@ -43,7 +43,14 @@ pub(crate) fn close<G: Gate>(
     let mut worked = 0;
     loop {
         let arena = &closing.arena;
-        if !predict(library, arena, words, limit, &mut closing.chart, &mut prediction)? {
+        if !predict(
+            library,
+            arena,
+            words,
+            limit,
+            &mut closing.chart,
+            &mut prediction,
+        )? {
             return Ok(false);
         }
         let end = closing.chart.len();

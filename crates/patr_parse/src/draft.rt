@@ -67,7 +67,7 @@ fn place(
     requires fits { Fits (sentence_of arena.old) (length block) root }
     requires mother { kind_passive kind ≡ true
         → HasMother (with_block (sentence_of arena.old) block).structure
-            (made_of (sentence_of arena.old) root) }
+        (made_of (sentence_of arena.old) root) }
     ensures pushed { IfOk result (λ _.
         sentence_of arena.new ≡ with_block (sentence_of arena.old) block) }
     ensures held { IfOk result (λ placed. ValueIsHeld (sentence_of arena.new) placed) }
@@ -92,7 +92,7 @@ pub(crate) fn push_draft(
     requires fits { Fits (sentence_of arena.old) (length draft.block) draft.root }
     requires mother { kind_passive draft.edge.kind ≡ true
         → HasMother (with_block (sentence_of arena.old) draft.block).structure
-            (made_of (sentence_of arena.old) draft.root) }
+        (made_of (sentence_of arena.old) draft.root) }
     requires edge { IsEdgeAfter chart.old.words chart.old.edges draft.edge }
     ensures placed { IfOk result (λ _. IsPlaced (sentence_of arena.old) (sentence_of arena.new)
         draft chart.old.edges chart.new.edges) }

@@ -42,7 +42,8 @@ pub(crate) struct Prediction {
 /// Puts an edge behind the others. False where there would be more than the limit.
 fn push_within(chart: &mut Chart, edge: Edge, limit: u32) -> Result<bool, Memory>
     requires { IsEdgeAfter chart.old.words chart.old.edges edge }
-    ensures pushed { IfOk result (λ done. done ≡ true → (chart.new.edges ≡ chart.old.edges ++ edge ∷ []) × (length chart.new.edges ≤ limit)) }
+    ensures pushed { IfOk result (λ done. done ≡ true → (chart.new.edges ≡ chart.old.edges ++ edge ∷
+        []) × (length chart.new.edges ≤ limit)) }
     ensures full { IfOk result (λ done. done ≡ false → limit ≤ length chart.old.edges) }
     ensures words { IfOk result (λ done. chart.new.words ≡ chart.old.words) }
 {
@@ -59,7 +60,8 @@ fn push_within(chart: &mut Chart, edge: Edge, limit: u32) -> Result<bool, Memory
 fn begin_edge(library: &Library, arena: &SentenceArena<'_>, number: u32, at: u32) -> Edge
     requires number { number < length library.now.rules }
     requires base { IsOver library.now (sentence_of arena.now) }
-    ensures edge { IsAloneEdge (rules_of library.now) library.now (sentence_of arena.now) (begun library.now at number) result }
+    ensures edge { IsAloneEdge (rules_of library.now) library.now (sentence_of arena.now) (begun
+        library.now at number) result }
     ensures place { (result.start ≡ at) × (result.end ≡ at) }
 {
     let item = library.rules()[number as usize];
@@ -88,7 +90,8 @@ fn leaf_edge(library: &Library, arena: &SentenceArena<'_>, number: u32, at: u32)
     requires number { number < length library.now.entries }
     requires base { IsOver library.now (sentence_of arena.now) }
     requires at { at < 256 }
-    ensures edge { IsAloneEdge (rules_of library.now) library.now (sentence_of arena.now) (leaf library.now at number) result }
+    ensures edge { IsAloneEdge (rules_of library.now) library.now (sentence_of arena.now) (leaf
+        library.now at number) result }
     ensures place { (result.start ≡ at) × (result.end ≡ at + 1) }
 {
     let item = library.entries()[number as usize];
@@ -119,7 +122,8 @@ fn begin_rules(
     requires base { IsOver library.now (sentence_of arena.now) }
     requires at { at ≤ chart.old.words }
     requires few { length chart.old.edges ≤ limit }
-    ensures pushed { IfOk result (λ done. ArePushed (rules_of library.now) library.now (sentence_of arena.now) limit chart.old.edges (begun_at library.now mother.0 at) chart.new.edges done) }
+    ensures pushed { IfOk result (λ done. ArePushed (rules_of library.now) library.now (sentence_of
+        arena.now) limit chart.old.edges (begun_at library.now mother.0 at) chart.new.edges done) }
     ensures words { IfOk result (λ done. chart.new.words ≡ chart.old.words) }
 {
     for number in library.rules_of(mother) {
@@ -143,7 +147,8 @@ fn push_leaves(
     requires at { at < chart.old.words }
     requires small { at < 256 }
     requires few { length chart.old.edges ≤ limit }
-    ensures pushed { IfOk result (λ done. ArePushed (rules_of library.now) library.now (sentence_of arena.now) limit chart.old.edges (leaves_at library.now word.0 at) chart.new.edges done) }
+    ensures pushed { IfOk result (λ done. ArePushed (rules_of library.now) library.now (sentence_of
+        arena.now) limit chart.old.edges (leaves_at library.now word.0 at) chart.new.edges done) }
     ensures words { IfOk result (λ done. chart.new.words ≡ chart.old.words) }
 {
     for number in library.items_of(word) {
@@ -166,7 +171,9 @@ fn push_words(
     requires words { chart.old.words ≡ length words.now }
     requires few_words { length words.now ≤ 256 }
     requires few { length chart.old.edges ≤ limit }
-    ensures pushed { IfOk result (λ done. ArePushed (rules_of library.now) library.now (sentence_of arena.now) limit chart.old.edges (leaves_from library.now 0 (map (λ (w : Id). w.0) words.now)) chart.new.edges done) }
+    ensures pushed { IfOk result (λ done. ArePushed (rules_of library.now) library.now (sentence_of
+        arena.now) limit chart.old.edges (leaves_from library.now 0 (map (λ (w : Id). w.0)
+        words.now)) chart.new.edges done) }
     ensures words { IfOk result (λ done. chart.new.words ≡ chart.old.words) }
 {
     for (at, word) in words.iter().enumerate() {
@@ -190,7 +197,9 @@ fn predict_category(
     requires base { IsOver library.now (sentence_of arena.now) }
     requires at { mark.at ≤ chart.old.words }
     requires few { length chart.old.edges ≤ limit }
-    ensures pushed { IfOk result (λ done. ArePushed (rules_of library.now) library.now (sentence_of arena.now) limit chart.old.edges (begun_unless (is_marked marks.old.keys mark.category mark.at) library.now mark.category mark.at) chart.new.edges done) }
+    ensures pushed { IfOk result (λ done. ArePushed (rules_of library.now) library.now (sentence_of
+        arena.now) limit chart.old.edges (begun_unless (is_marked marks.old.keys mark.category
+        mark.at) library.now mark.category mark.at) chart.new.edges done) }
     ensures marked { IfOk result (λ _. HasMark marks.old.keys marks.new.keys mark.category mark.at) }
     ensures words { IfOk result (λ done. chart.new.words ≡ chart.old.words) }
 {
@@ -204,8 +213,10 @@ fn predict_category(
 /// The category of the next daughter of edge k; none where no daughter is missing.
 fn next_category(library: &Library, arena: &SentenceArena<'_>, chart: &Chart, k: u32) -> Option<Id>
     requires k { k < length chart.now.edges }
-    requires ready { (limit : ℕ) × IsReady (rules_of library.now) library.now (sentence_of arena.now) limit chart.now.edges }
-    ensures { option_map (λ (c : Id). c.0) result ≡ next_of (rules_of library.now) (tree chart.now.edges k) }
+    requires ready { (limit : ℕ) × IsReady (rules_of library.now) library.now (sentence_of
+        arena.now) limit chart.now.edges }
+    ensures { option_map (λ (c : Id). c.0) result ≡ next_of (rules_of library.now) (tree
+        chart.now.edges k) }
 {
     let edge = chart.edge(k);
     if edge.is_passive() {
@@ -232,10 +243,14 @@ fn follow(
 ) -> Result<bool, Memory>
     requires k { k < length chart.old.edges }
     requires base { IsOver library.now (sentence_of arena.now) }
-    requires ready { IsReady (rules_of library.now) library.now (sentence_of arena.now) limit chart.old.edges }
+    requires ready { IsReady (rules_of library.now) library.now (sentence_of arena.now) limit
+        chart.old.edges }
     requires few { length chart.old.edges ≤ limit }
-    ensures pushed { IfOk result (λ done. ArePushed (rules_of library.now) library.now (sentence_of arena.now) limit chart.old.edges (begun_by marks.old.keys library.now (next_of (rules_of library.now) (tree chart.old.edges k)) (end (tree chart.old.edges k))) chart.new.edges done) }
-    ensures marked { IfOk result (λ done. HasMarkOf marks.old.keys marks.new.keys (next_of (rules_of library.now) (tree chart.old.edges k)) (end (tree chart.old.edges k))) }
+    ensures pushed { IfOk result (λ done. ArePushed (rules_of library.now) library.now (sentence_of
+        arena.now) limit chart.old.edges (begun_by marks.old.keys library.now (next_of (rules_of
+        library.now) (tree chart.old.edges k)) (end (tree chart.old.edges k))) chart.new.edges done) }
+    ensures marked { IfOk result (λ done. HasMarkOf marks.old.keys marks.new.keys (next_of (rules_of
+        library.now) (tree chart.old.edges k)) (end (tree chart.old.edges k))) }
     ensures words { IfOk result (λ done. chart.new.words ≡ chart.old.words) }
 {
     let Some(category) = next_category(library, arena, chart, k) else {
@@ -260,7 +275,8 @@ pub(crate) fn initialize(
     requires empty { chart.old.edges ≡ [] }
     requires base { IsOver library.now (sentence_of arena.now) × IsStored library.now }
     requires words { (chart.old.words ≡ length words.now) × (length words.now ≤ 256) }
-    ensures initialized { IfOk result (λ begun. IfSome begun (λ prediction. IsInitialized library.now
+    ensures initialized { IfOk result (λ begun. IfSome begun (λ prediction. IsInitialized
+        library.now
         (map (λ (w : Id). w.0) words.now) (sentence_of arena.now) limit prediction chart.new.edges)) }
     ensures more { IfOk result (λ begun. IfNone begun (HasMoreThan (judge library.now)
         (rules_of library.now) (map (λ (w : Id). w.0) words.now) limit)) }
@@ -299,7 +315,8 @@ pub(crate) fn predict(
         chart.old.edges }
     requires few { length chart.old.edges ≤ limit }
     ensures predicted { IfOk result (λ done. done ≡ true → IsFurther library.now
-        (map (λ (w : Id). w.0) words.now) (sentence_of arena.now) limit chart.old.edges prediction.new
+        (map (λ (w : Id). w.0) words.now) (sentence_of arena.now) limit chart.old.edges
+        prediction.new
         chart.new.edges) }
     ensures complete { IfOk result (λ done. done ≡ true → IsPredicted (judge library.now)
         (rules_of library.now) (map (λ (w : Id). w.0) words.now) (derivations chart.new.edges)) }

@@ -53,12 +53,14 @@ fn draft_all<N: Nodes, G: Gate>(
     requires within { work.now.worked ≤ length work.now.chart.now.edges }
     requires count { local.old.decided ≤ work.now.worked * 200000 }
     ensures gave { IfOk result (λ found. IfSome found (λ made. IsRoundAt work.now.library.now
-        (N.shown work.now.nodes.now) work.now.chart.now work.now.limit work.now.worked local.old.decided
+        (N.shown work.now.nodes.now) work.now.chart.now work.now.limit work.now.worked
+        local.old.decided
         (length work.now.chart.now.edges) local.new.decided made.items)) }
-    ensures more { (ws : List ℕ) → Stands (judge work.now.library.now) (rules_of work.now.library.now) ws
-            work.now.chart.now.edges work.now.worked []
+    ensures more { (ws : List ℕ) → Stands (judge work.now.library.now) (rules_of
+        work.now.library.now) ws
+        work.now.chart.now.edges work.now.worked []
         → IfOk result (λ found. IfNone found (HasMoreThan (judge work.now.library.now)
-            (rules_of work.now.library.now) ws work.now.limit)) }
+        (rules_of work.now.library.now) ws work.now.limit)) }
 {
     let mut made = Vec::new(alloc);
     let end = work.chart.len();
@@ -105,7 +107,8 @@ pub(crate) fn complete<G: Gate>(
     closing: &mut Closing<'_>,
     gate: &G,
 ) -> Result<bool, Memory>
-    requires ready { IsReady (rules_of library.now) library.now (sentence_of closing.old.arena) limit
+    requires ready { IsReady (rules_of library.now) library.now (sentence_of closing.old.arena)
+        limit
         closing.old.chart.edges }
     requires limit { (limit ≤ 200000) × (length closing.old.chart.edges ≤ limit) }
     requires within { worked ≤ length closing.old.chart.edges }
@@ -113,9 +116,9 @@ pub(crate) fn complete<G: Gate>(
     ensures completed { IfOk result (λ done. done ≡ true
         → IsCompleted library.now limit worked closing.old closing.new) }
     ensures more { (ws : List ℕ) → Stands (judge library.now) (rules_of library.now) ws
-            closing.old.chart.edges worked []
+        closing.old.chart.edges worked []
         → IfOk result (λ done. done ≡ false
-            → HasMoreThan (judge library.now) (rules_of library.now) ws limit) }
+        → HasMoreThan (judge library.now) (rules_of library.now) ws limit) }
 {
     let work = RoundWork {
         library,

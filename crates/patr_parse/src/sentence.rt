@@ -14,7 +14,8 @@ use std::alloc::Global;
 
 // Puts the parts of a text between tabs that are not empty behind the words.
 fn push_words<'a>(words: &mut Vec<&'a str>, text: &'a str) -> Result<(), Memory>
-    ensures { IfOk result (λ _. map (λ w. w.now) words.new.items ≡ map (λ w. w.now) words.old.items ++ between_tabs text.now) }
+    ensures { IfOk result (λ _. map (λ w. w.now) words.new.items ≡ map (λ w. w.now) words.old.items
+        ++ between_tabs text.now) }
 {
     for word in text.split('\t') {
         if word.is_empty() {
@@ -39,7 +40,8 @@ pub fn words_of<'a>(alloc: Global, sentence: &'a str) -> Result<Vec<&'a str>, Me
 // The number of a word that has an entry.
 fn known_word(library: &Library, symbols: &Symbols, word: &str) -> Option<Id>
     requires { IsTable symbols.now }
-    ensures { MatchOption result (IsKnown library.now symbols.now word.now → ⊥) (λ id. IsNumberOf library.now symbols.now word.now id.0) }
+    ensures { MatchOption result (IsKnown library.now symbols.now word.now → ⊥) (λ id. IsNumberOf
+        library.now symbols.now word.now id.0) }
 {
     let Some(id) = symbols.find(word) else {
         return None;
@@ -60,8 +62,10 @@ fn known_words(
 ) -> Result<Vec<Id>, Fault<ParseCause>>
     requires short { length words.now ≤ 256 }
     requires table { IsTable symbols.now }
-    ensures numbers { IfOk result (λ numbers. AreKnown library.now symbols.now (map (λ w. w.now) words.now) (ids numbers.items)) }
-    ensures refused { (limit : ℕ) → IfErr result (λ fault. IsRefusedFor library.now symbols.now (map (λ w. w.now) words.now) limit fault) }
+    ensures numbers { IfOk result (λ numbers. AreKnown library.now symbols.now (map (λ w. w.now)
+        words.now) (ids numbers.items)) }
+    ensures refused { (limit : ℕ) → IfErr result (λ fault. IsRefusedFor library.now symbols.now (map
+        (λ w. w.now) words.now) limit fault) }
 {
     let mut numbers = Vec::new(alloc);
     for (place, word) in words.iter().enumerate() {

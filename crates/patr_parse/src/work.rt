@@ -101,7 +101,8 @@ fn has_unifier<N: Nodes, L: Ledger>(
     requires left { IsHeld (N.shown nodes.now) pair.left.block pair.left.offset }
     requires right { ValueIsHeld (N.shown nodes.now) pair.right }
     requires slot { at (N.shown nodes.now).structure
-        (Node (number_of (N.shown nodes.now) pair.left.block pair.left.offset)) (pair.slot.0 ∷ []) ≢ None }
+        (Node (number_of (N.shown nodes.now) pair.left.block pair.left.offset)) (pair.slot.0 ∷ []) ≢
+        None }
     requires within { AreWithin (N.shown nodes.now)
         (Node (number_of (N.shown nodes.now) pair.left.block pair.left.offset))
         (value_of (N.shown nodes.now) pair.right) pair.reach.nodes pair.reach.arcs }
@@ -110,8 +111,8 @@ fn has_unifier<N: Nodes, L: Ledger>(
         (value_of (N.shown nodes.now) pair.right)) }
     ensures none { IfOk result (λ found. found ≡ false → (G : Structure) (g : _) →
         TakesBoth (N.shown nodes.now).structure
-            (Node (number_of (N.shown nodes.now) pair.left.block pair.left.offset)) (pair.slot.0 ∷ [])
-            (N.shown nodes.now).structure (value_of (N.shown nodes.now) pair.right) G g → ⊥) }
+        (Node (number_of (N.shown nodes.now) pair.left.block pair.left.offset)) (pair.slot.0 ∷ [])
+        (N.shown nodes.now).structure (value_of (N.shown nodes.now) pair.right) G g → ⊥) }
     ensures steps { IfOk result (λ _. steps.new ≡ steps.old + 1) }
 {
     scratch.reserve(nodes.count(), pair.reach.nodes, pair.reach.arcs)?;
@@ -156,8 +157,10 @@ impl<'r, N: Nodes> RoundWork<'r, N> {
             (N.shown self.now.nodes.now) self.now.limit self.now.chart.now.edges }
         requires limit { self.now.limit ≤ 200000 }
         ensures combined { IfOk result (λ outcome. HasCombined (rules_of self.now.library.now)
-            (N.shown self.now.nodes.now) self.now.chart.now.words self.now.chart.now.edges self.now.limit
-            (Extend (tree self.now.chart.now.edges pair.0) (tree self.now.chart.now.edges pair.1)) outcome) }
+            (N.shown self.now.nodes.now) self.now.chart.now.words self.now.chart.now.edges
+            self.now.limit
+            (Extend (tree self.now.chart.now.edges pair.0) (tree self.now.chart.now.edges pair.1))
+            outcome) }
         ensures steps { IfOk result (λ _. steps.new ≡ steps.old + 1) }
     {
         let (active, passive) = pair;
@@ -212,7 +215,8 @@ impl<'r, N: Nodes> RoundWork<'r, N> {
             (N.shown self.now.nodes.now) self.now.limit self.now.chart.now.edges }
         requires limit { self.now.limit ≤ 200000 }
         ensures decided { IfOk result (λ small. IsDecided (rules_of self.now.library.now)
-            (N.shown self.now.nodes.now) self.now.chart.now.words self.now.chart.now.edges self.now.limit
+            (N.shown self.now.nodes.now) self.now.chart.now.words self.now.chart.now.edges
+            self.now.limit
             (Extend (tree self.now.chart.now.edges pair.0) (tree self.now.chart.now.edges pair.1))
             made.old.items made.new.items small) }
         ensures steps { IfOk result (λ _. steps.new ≡ steps.old + 1) }
@@ -239,14 +243,18 @@ impl<'r, N: Nodes> RoundWork<'r, N> {
         requires k { k < length self.now.chart.now.edges }
         requires ready { IsReady (rules_of self.now.library.now) self.now.library.now
             (N.shown self.now.nodes.now) self.now.limit self.now.chart.now.edges }
-        requires limit { (self.now.limit ≤ 200000) × (length self.now.chart.now.edges ≤ self.now.limit) }
+        requires limit { (self.now.limit ≤ 200000) × (length self.now.chart.now.edges ≤
+            self.now.limit) }
         requires count { local.old.decided ≤ k * 200000 }
         requires ledger { (blank.name ≡ L.name) × (blank.parts ≡ L.parts) × (0 < blank.parts) }
-        ensures some { IfOk result (λ found. IfSome found (λ made. TaskGave (rules_of self.now.library.now)
-            (N.shown self.now.nodes.now) self.now.chart.now.words self.now.chart.now.edges self.now.limit
+        ensures some { IfOk result (λ found. IfSome found (λ made. TaskGave (rules_of
+            self.now.library.now)
+            (N.shown self.now.nodes.now) self.now.chart.now.words self.now.chart.now.edges
+            self.now.limit
             k made.items local.old.decided local.new.decided)) }
         ensures none { IfOk result (λ found. IfNone found (HasLarge
-            (IsSolvable (rules_of self.now.library.now)) (rules_of self.now.library.now) self.now.limit
+            (IsSolvable (rules_of self.now.library.now)) (rules_of self.now.library.now)
+            self.now.limit
             (derivations self.now.chart.now.edges))) }
     {
         let passive = self.chart.edge(k).is_passive();
@@ -274,13 +282,17 @@ impl<'r, N: Nodes> RoundWork<'r, N> {
         requires task { self.now.worked + task < length self.now.chart.now.edges }
         requires ready { IsReady (rules_of self.now.library.now) self.now.library.now
             (N.shown self.now.nodes.now) self.now.limit self.now.chart.now.edges }
-        requires limit { (self.now.limit ≤ 200000) × (length self.now.chart.now.edges ≤ self.now.limit) }
+        requires limit { (self.now.limit ≤ 200000) × (length self.now.chart.now.edges ≤
+            self.now.limit) }
         requires count { local.old.decided ≤ (self.now.worked + task) * 200000 }
-        ensures gave { IfOk result (λ outcome. is_stop outcome ≡ false → TaskGave (rules_of self.now.library.now)
-            (N.shown self.now.nodes.now) self.now.chart.now.words self.now.chart.now.edges self.now.limit
+        ensures gave { IfOk result (λ outcome. is_stop outcome ≡ false → TaskGave (rules_of
+            self.now.library.now)
+            (N.shown self.now.nodes.now) self.now.chart.now.words self.now.chart.now.edges
+            self.now.limit
             (self.now.worked + task) (drafts_of outcome) local.old.decided local.new.decided) }
         ensures large { IfOk result (λ outcome. is_stop outcome ≡ true → HasLarge
-            (IsSolvable (rules_of self.now.library.now)) (rules_of self.now.library.now) self.now.limit
+            (IsSolvable (rules_of self.now.library.now)) (rules_of self.now.library.now)
+            self.now.limit
             (derivations self.now.chart.now.edges)) }
     {
         let k = self.worked + task as u32;
