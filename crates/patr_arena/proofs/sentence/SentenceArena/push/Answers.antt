@@ -12,7 +12,7 @@ pub invariant_of-self : goal.invariant_of-self
 invariant_of-self c =
     let arena = c.args.self.now in
     let kept = kept_row (shown_of arena.base.now) arena.base.now.lawful arena.row arena.first_block arena.first_node arena.blocks c.args.block c.len-length.ensures.block c.requires _
-        (either c.push.result c.push.ensures (λ number p. inl p.1) (λ back p. inr p.1)) in
+    (either c.push.result c.push.ensures (λ number p. inl p.1) (λ back p. inr p.1)) in
     record { first_block = kept.first_block; first_node = kept.first_node; blocks = kept.blocks; lawful = kept.lawful }
 
 pub returns : goal.returns
