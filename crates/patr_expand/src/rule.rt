@@ -12,7 +12,9 @@ ghost use Rattle.patr_expand.specs.Expanded.{IsOnly, IsExpanded};
 use crate::cause::{ExpandCause, too_many};
 use crate::equation::{Equation, SlotPath, Term};
 use crate::variant::RuleVariant;
-use patr_grammar::{Element, EquationText, Grammar, Item, PathText, RuleText, SymbolText, TermText};
+use patr_grammar::{
+    Element, EquationText, Grammar, Item, PathText, RuleText, SymbolText, TermText,
+};
 use patr_text::{Fault, Id, Memory, Symbols};
 use std::alloc::Global;
 

@@ -12,8 +12,8 @@ mod reading;
 mod words;
 
 pub use grammar::{
-    Element, EquationText, Grammar, GrammarCause, Item, LexicalRule, PathText, RuleText, SymbolText,
-    Template, TermText, expected_text,
+    Element, EquationText, Grammar, GrammarCause, Item, LexicalRule, PathText, RuleText,
+    SymbolText, Template, TermText, expected_text,
 };
 pub use patr_model::What;
 pub use reading::{read_elements, read_grammar};
