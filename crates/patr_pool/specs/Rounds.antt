@@ -1,11 +1,10 @@
 -- What workers and rounds leave.
-use Rattle.std.specs.Prelude.{◌≡◌, ℕ, ◌<◌, ◌≤◌, ◌⊎◌, Bool, true, false, List, [], ◌∷◌, ◌++◌, All, map, sum_by, vec_len, ◌||◌}
+use Rattle.std.specs.Prelude.{◌≡◌, ℕ, ◌<◌, ◌⊎◌, Bool, true, false, List, [], ◌∷◌, All, map, sum_by, vec_len, ◌||◌}
 use Rattle.patr_claims.specs.Tasks.{times, times_in, all_of, NoneTwice, EachBelow, NoneFrom}
 use Rattle.patr_pool.specs.declared.work.Outcome.{Outcome}
-use Rattle.patr_pool.specs.declared.work.Outcome.TheVariants.{Nothing, Made, Stop}
+use Rattle.patr_pool.specs.declared.work.Outcome.TheVariants.{Nothing, Stop}
 use Rattle.patr_pool.specs.declared.work.Yield.{Yield}
 use Rattle.patr_pool.specs.declared.worker.Ran.{Ran}
-use Rattle.patr_pool.specs.declared.workers.Waiting.{Waiting}
 use Rattle.patr_pool.specs.declared.workers.Worker.{Worker}
 use Rattle.patr_pool.specs.declared.workers.Worker.TheVariants.{Ready, Done, Failed}
 use Rattle.patr_pool.specs.declared.gathered.Gathered.{Gathered}
