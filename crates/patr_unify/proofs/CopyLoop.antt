@@ -12,7 +12,6 @@ use Rattle.patr_marks.proofs.Reach.{copy_starts}
 use Rattle.patr_arena.specs.Blocks.{OldIsHeld}
 use Rattle.patr_arena.specs.Shown.{Shown, IsShown, IsHeld}
 use Rattle.patr_arena.specs.declared.value.Feature.{Feature}
-use Rattle.patr_scratch.specs.declared.Copied.{Copied}
 use Rattle.patr_scratch.specs.declared.Place.{Place}
 use Rattle.patr_scratch.specs.declared.Target.{Target}
 use Rattle.patr_scratch.specs.declared.Visit.{Visit}
@@ -20,10 +19,10 @@ use Rattle.patr_scratch.specs.declared.Visit.TheVariants as visit
 use Rattle.patr_scratch.specs.Contents.{Contents}
 use Rattle.patr_unify.specs.declared.draft.Draft.{Draft}
 use Rattle.patr_unify.specs.declared.cursor.Cursor.{Cursor}
-use Rattle.patr_unify.specs.Copying.{HasFinished, HasGoneBack, HasGoneOn, IsCopyMarked, MarkFits, copying_by, HasRoomToEnter, IsEndRef, IsMade}
+use Rattle.patr_unify.specs.Copying.{HasFinished, HasGoneBack, HasGoneOn, MarkFits, copying_by, HasRoomToEnter, IsEndRef, IsMade}
 use Rattle.patr_unify.specs.Deciding.{IsEndOfLeft, IsSettledFor, marks_by}
 use Rattle.patr_unify.specs.Merging.{both}
-use Rattle.patr_unify.specs.Reading.{key, slot_of, forward_of}
+use Rattle.patr_unify.specs.Reading.{key, forward_of}
 use Rattle.patr_unify.specs.Walking.{IsVisited, end_value, visit_of, ArePaused, IsFoundAt, IsTakenFrom, VisitsHeld, cursors_of, stack_of}
 use Rattle.patr_unify.specs.Stepping.{upto}
 use Rattle.patr_unify.proofs.Keys.{node_one}

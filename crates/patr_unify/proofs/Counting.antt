@@ -1,7 +1,6 @@
 -- What a value reaches, counted node by node.
 use Rattle.std.proofs.Common.{◌≡◌, ◌≢◌, ℕ, ◌+◌, ◌<◌, ◌⊎◌, inl, inr, Bool, true, false, cond, nat_eq, Some, option_and_then, List, [], ◌∷◌, ◌++◌, length, length-append, drop, get_or, not, refl, sym, ap, ◌∙◌, subst, arith, eqb-true, eq-eqb, ne_eqb, true≢false}
 use Rattle.std.proofs.lemmas.List.{append_assoc, drop_more, length-map, map-append}
-use Rattle.std.specs.List.{list_any}
 use Rattle.std.specs.HashSet.{HashSet, contains, hash_set_len}
 use Rattle.patr_model.specs.Structure.{Value, Atom, Node, Arcs, Structure, HasDistinct, IsReached, arc, at}
 use Rattle.patr_model.proofs.Maps.{and_then_some}
@@ -12,7 +11,7 @@ use Rattle.patr_arena.specs.declared.value.Value as its
 use Rattle.patr_arena.specs.declared.value.Feature.{Feature}
 use Rattle.patr_arena.specs.Shown.{Shown, IsShown, ValueIsHeld, arcs_from, ref_of, value_of}
 use Rattle.patr_unify.specs.Deciding.{IsReachOf}
-use Rattle.patr_unify.specs.Counting.{IsCounting, IsLookedAt, IsNoted, IsReaching, ValuesHeld, Waits, targets, unseen_arcs, values}
+use Rattle.patr_unify.specs.Counting.{IsLookedAt, IsNoted, IsReaching, ValuesHeld, Waits, targets, unseen_arcs, values}
 use Rattle.patr_unify.specs.Stepping.{upto}
 use Rattle.patr_unify.proofs.Running.{upto_in, upto_once}
 
@@ -50,20 +49,6 @@ at_more S [] v w z a h e = let s : v ≡ w = cc in ap (option_and_then (λ u. So
 at_more S (b ∷ q) v w z a h e =
     let s = and_then_some (arc S v b) (λ u. at S u q) w h in
     ap (option_and_then (λ u. at S u (q ++ (a ∷ [])))) s.1 ∙ at_more S q s.0 w z a s.2 e
-
--- nothing but the value waits
-pub reaching_starts : (S : Structure) (x : Value) → IsReaching S x [] (x ∷ [])
-reaching_starts S x = record {
-  once = tt;
-  reached = λ k h. absurd h;
-  waits = λ y h. elim h [ inl e ↦ ([], ap (λ u. Some u) e) | inr n ↦ absurd n ];
-  first = noted x;
-  closed = λ k a y h e. absurd h;
-}
-  where
-    noted : (x : Value) → IsNoted [] (x ∷ []) x
-    noted (Atom c) = tt
-    noted (Node k) = inr (inl refl)
 
 -- the last value is an atom, or was looked at before
 pub reaching_dropped : (S : Structure) (x y : Value) (ks : List ℕ) (ws : List Value) → IsNoted ks [] y → IsReaching S x ks (ws ++ y ∷ []) → IsReaching S x ks ws

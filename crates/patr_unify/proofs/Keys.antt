@@ -51,9 +51,6 @@ key_room v w s a p h = let one = slot_below p.side (length v.structure) (number_
 pub slot_one : (n j k : ℕ) → slot_of n j ≡ slot_of n k → j ≡ k
 slot_one n j k e = go (nat_lt j n) refl (nat_lt k n) refl e
   where
-    under : (j n : ℕ) → nat_lt j n ≡ true → j < n
-    under j n e = grind arith
-
     over : (j n : ℕ) → nat_lt j n ≡ false → n ≤ j
     over j n e = grind arith
 

@@ -18,7 +18,6 @@ use Rattle.patr_arena.specs.Shown.{Shown, IsShown, arcs_from}
 use Rattle.patr_arena.specs.Blocks.{OldIsHeld, with_block}
 use Rattle.patr_arena.specs.declared.value.Feature.{Feature}
 use Rattle.patr_arena.specs.declared.value.Ref.{Ref}
-use Rattle.patr_scratch.specs.declared.Visit.{Visit}
 use Rattle.patr_scratch.specs.declared.Visit.TheVariants as visit
 use Rattle.patr_scratch.specs.Contents.{Contents}
 use Rattle.patr_unify.specs.Copying.{IsEndRef, IsMade, MarkFits, copying_by, free_of, made_of, new_nodes}

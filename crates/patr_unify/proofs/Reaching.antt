@@ -1,5 +1,5 @@
 -- The ends of settled marks are reached from the left side's end, and which places a copy may keep.
-use Rattle.std.proofs.Common.{◌≡◌, ℕ, zero, suc, ◌+◌, ◌-◌, ◌<◌, inl, inr, true, false, cond, nat_lt, Option, Some, None, List, [], ◌∷◌, length, refl, sym, ap, ◌∙◌, subst, arith}
+use Rattle.std.proofs.Common.{◌≡◌, ℕ, zero, suc, ◌-◌, ◌<◌, inl, inr, true, false, cond, Option, Some, None, List, [], ◌∷◌, length, refl, sym, ap, ◌∙◌, subst, arith}
 use Rattle.patr_model.specs.Structure.{Value, Atom, Node, Structure, IsReached, arc, at}
 use Rattle.patr_model.specs.Settled.{IsSideNode}
 use Rattle.patr_model.proofs.Maps.{and_then_some, some_inj}
@@ -22,7 +22,7 @@ use Rattle.patr_unify.specs.Copying.{copying_by, free_of, stays_free}
 use Rattle.patr_unify.specs.Deciding.{IsEndIn, IsEndOfLeft, IsSettledFor, marks_by}
 use Rattle.patr_unify.specs.Merging.{both}
 use Rattle.patr_unify.specs.Reading.{forward_of}
-use Rattle.patr_unify.specs.Walking.{AllEnd, end_value, visit_of}
+use Rattle.patr_unify.specs.Walking.{end_value, visit_of}
 use Rattle.patr_unify.proofs.Keeping.{free_behind}
 use Rattle.patr_unify.proofs.Keys.{lt_true}
 

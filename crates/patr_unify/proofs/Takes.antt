@@ -10,10 +10,10 @@ use Rattle.patr_scratch.specs.declared.Side.{Side}
 use Rattle.patr_scratch.specs.declared.Side.TheVariants as side
 use Rattle.patr_scratch.specs.declared.Place.{Place}
 use Rattle.patr_scratch.specs.Contents.{Contents}
-use Rattle.patr_unify.specs.Reading.{key, added_of, pairs_at, PairsHeld, AreHeld, value_on, arcs_on}
+use Rattle.patr_unify.specs.Reading.{key, added_of, pairs_at, value_on, arcs_on}
 use Rattle.patr_unify.specs.Merging.{both, one_pair, one_more, IsGiven, rev_onto, IsTaken, HasMergeRoom}
 use Rattle.patr_unify.proofs.Keys.{own_key}
-use Rattle.patr_unify.proofs.Merges.{kept_same, kept_then, pairs_length}
+use Rattle.patr_unify.proofs.Merges.{kept_then, pairs_length}
 
 -- what has no arc of an attribute has none in front of others
 pub none_has : (es : Arcs) (a : ℕ) → along es a ≡ None → has_attribute es a ≡ false
