@@ -1,7 +1,7 @@
 -- Which ends stay where they are.
-use Rattle.std.proofs.Common.{◌≡◌, ◌≢◌, ℕ, ◌+◌, ◌-◌, ◌*◌, ◌<◌, ◌⊎◌, inl, inr, Bool, true, false, cond, ◌&&◌, ◌||◌, nat_eq, nat_lt, Option, Some, None, List, [], ◌∷◌, length, refl, sym, ap, ◌∙◌, subst, arith}
-use Rattle.patr_model.specs.Structure.{Value, Node, Arc, Arcs, IsBelow, along}
-use Rattle.patr_marks.specs.Machine.{Has, has_attribute}
+use Rattle.std.proofs.Common.{◌≡◌, ◌≢◌, ℕ, ◌+◌, ◌-◌, ◌*◌, Bool, true, false, cond, ◌&&◌, Option, Some, None, List, ◌∷◌, length, refl, sym, ap, ◌∙◌, subst, arith}
+use Rattle.patr_model.specs.Structure.{Value, Node, Arc, Arcs, IsBelow}
+use Rattle.patr_marks.specs.Machine.{has_attribute}
 use Rattle.patr_marks.specs.Settled.{base, covered}
 use Rattle.patr_marks.proofs.Copy.{base_left, base_shift}
 use Rattle.patr_arena.specs.Shown.{Shown, IsShown, IsHeld, number_of}
@@ -18,7 +18,7 @@ use Rattle.patr_scratch.specs.declared.Side.TheVariants as side
 use Rattle.patr_scratch.specs.declared.Visit.{Visit}
 use Rattle.patr_scratch.specs.declared.Visit.TheVariants as visit
 use Rattle.patr_scratch.specs.Contents.{Contents, Link, PlaceMarks, after, marks}
-use Rattle.patr_unify.specs.Copying.{AllLead, CopiesFit, Fits, IsEndRef, IsOld, LeadsAsBefore, LeadsElsewhere, MarkFits, copied_of, free_of, ref_to, stays_free}
+use Rattle.patr_unify.specs.Copying.{CopiesFit, Fits, IsEndRef, IsOld, LeadsAsBefore, LeadsElsewhere, MarkFits, copied_of, free_of, ref_to, stays_free}
 use Rattle.patr_unify.specs.Reading.{arcs_at, behind, forward_of, key, marks_in, marks_of, slot_of, value_on}
 use Rattle.patr_unify.specs.Walking.{end_value, visit_of}
 use Rattle.patr_unify.proofs.Keys.{key_marks, lt_false, lt_true, node_one}

@@ -1,13 +1,13 @@
 -- What is done with a pair is a step of the machine.
-use Rattle.std.proofs.Common.{◌≡◌, ◌≢◌, ℕ, zero, suc, ◌+◌, ◌-◌, ◌*◌, ◌<◌, ◌≤◌, inl, inr, Bool, true, false, cond, nat_eq, Option, Some, None, List, [], ◌∷◌, ◌++◌, length, length-set, get_or-set_same, get_or-set_other, refl, sym, ap, ◌∙◌, subst, arith, eq-eqb, ne_eqb, eqb-true, true≢false, add-suc, add-zero}
+use Rattle.std.proofs.Common.{◌≡◌, ◌≢◌, ℕ, ◌+◌, ◌-◌, ◌*◌, ◌<◌, ◌≤◌, inl, inr, Bool, true, false, cond, nat_eq, Some, List, [], ◌∷◌, ◌++◌, length, length-set, get_or-set_same, get_or-set_other, refl, sym, ap, ◌∙◌, subst, arith, eq-eqb, ne_eqb, true≢false}
 use Rattle.std.proofs.lemmas.Bool.{cases_eq}
 use Rattle.patr_model.specs.Structure.{Value, Atom, Node, Arcs}
-use Rattle.patr_marks.specs.Machine.{lookup, Forward, Has, IsLog, Agrees, Ends, ends, own, missing}
-use Rattle.patr_marks.specs.Settled.{onward, follow, IsFinal}
+use Rattle.patr_marks.specs.Machine.{lookup, Forward, Has, Ends, ends, own, missing}
+use Rattle.patr_marks.specs.Settled.{follow, IsFinal}
 use Rattle.patr_marks.specs.Sides.{sides}
-use Rattle.patr_marks.proofs.Lists.{ends_atom, ends_twice, log_agrees, has_cases, has_left, has_right}
+use Rattle.patr_marks.proofs.Lists.{ends_atom, ends_twice, has_cases, has_left, has_right}
 use Rattle.patr_marks.proofs.Follow.{final_end, final_ext, follow_add, follow_ends, follow_ext}
-use Rattle.patr_marks.proofs.Settles.{end_final, none_end, follow_final, log_follow}
+use Rattle.patr_marks.proofs.Settles.{end_final, follow_final, log_follow}
 use Rattle.patr_arena.specs.Shown.{Shown, IsShown, IsHeld, number_of}
 use Rattle.patr_arena.specs.declared.value.Addr.{Addr}
 use Rattle.patr_arena.proofs.Addresses.{address_tells}

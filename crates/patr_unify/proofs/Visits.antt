@@ -1,5 +1,5 @@
 -- Visits are set, and copies are marked.
-use Rattle.std.proofs.Common.{◌≡◌, ℕ, ◌+◌, ◌<◌, ◌≤◌, List, [], ◌∷◌, ◌++◌, length, length-append, length-set, get_or-set_same, get_or-set_other, refl, sym, ap, ◌∙◌, subst, arith, append_assoc, suc, inl, inr, Some}
+use Rattle.std.proofs.Common.{◌≡◌, ℕ, List, [], ◌∷◌, length, length-set, get_or-set_same, get_or-set_other, refl, sym, ap, ◌∙◌, subst, suc, inl, inr, Some}
 use Rattle.patr_arena.specs.Shown.{Shown, IsShown, IsHeld, number_of, arcs_from}
 use Rattle.patr_scratch.specs.declared.Place.{Place}
 use Rattle.patr_scratch.specs.declared.Target.{Target}

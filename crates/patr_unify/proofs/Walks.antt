@@ -1,8 +1,8 @@
 -- What the walk finds.
-use Rattle.std.proofs.Common.{◌≡◌, ℕ, zero, suc, ◌+◌, inl, inr, Bool, true, false, cond, nat_eq, Option, Some, None, List, [], ◌∷◌, drop, refl, sym, ap, ◌∙◌, subst, arith}
+use Rattle.std.proofs.Common.{◌≡◌, ℕ, zero, suc, inl, inr, Bool, true, false, cond, nat_eq, Option, Some, None, List, [], ◌∷◌, drop, refl, sym, ap, ◌∙◌, subst}
 use Rattle.patr_model.specs.Structure.{Value, Arc, Arcs}
 use Rattle.patr_marks.specs.Machine.{Has}
-use Rattle.patr_marks.specs.Settled.{follow, IsFinal}
+use Rattle.patr_marks.specs.Settled.{IsFinal}
 use Rattle.patr_marks.proofs.Follow.{one_final}
 use Rattle.patr_arena.specs.Shown.{Shown, IsShown, IsHeld, number_of}
 use Rattle.patr_scratch.specs.declared.Place.{Place}
