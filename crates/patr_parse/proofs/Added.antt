@@ -2,9 +2,9 @@
 use Rattle.std.proofs.Common.{◌≡◌, inl, inr, ℕ, zero, suc, ◌+◌, ◌<◌, List, [], ◌∷◌, ◌++◌, length, take, map, Some, None, slice_get, refl, sym, ap, ◌∙◌, arith, subst, append-nil, append_assoc, length-append}
 use Rattle.std.specs.List.{AllByRecursion}
 use Rattle.std.proofs.lemmas.List.{length-map, take-append-le}
-use Rattle.patr_parse.proofs.Names.{Rules, Derivation, Judgement, InChart, EachOnce, HasMoreThan, Each, IsWorked, IsNoPair, some_inj, in_either, rounds, Shown, EdgeKind, Rule, Edge, derived_by, derived, derivations, KindsFit, from_length, Stored, IsSoundEdge, AreSound, IsAloneEdge, Stands, made_by, AreWaiting}
-use Rattle.patr_model.specs.Chart.{IsIn}
-use Rattle.patr_model.proofs.Rounds.{in_one}
+use Rattle.patr_lists.proofs.Members.{in_cases, in_one}
+use Rattle.patr_lists.specs.Members.{NoRepeats, IsIn}
+use Rattle.patr_parse.proofs.Names.{Rules, Derivation, Judgement, InChart, HasMoreThan, Each, IsWorked, IsNoPair, some_inj, rounds, Shown, EdgeKind, Rule, Edge, derived_by, derived, derivations, KindsFit, from_length, Stored, IsSoundEdge, AreSound, IsAloneEdge, Stands, made_by, AreWaiting}
 use Rattle.patr_chart.specs.declared.edge.EdgeKind.TheVariants.{Entry}
 use Rattle.patr_chart.specs.Charted.{alone, derivations_from}
 use Rattle.patr_chart.proofs.Trees.{from_append}
@@ -23,7 +23,7 @@ AreAlone ys = AllByRecursion (λ (e : Edge). e.back ≡ None) ys
 -- derivations that the chart has not yet, each once
 pub record AreNew (j : Judgement) (g : Rules) (ws : List ℕ) (es : List Edge) (ts : List Derivation) : Type 0 where
   pub edges : (t : Derivation) → IsIn ts t → InChart j g ws t
-  pub once : EachOnce ts
+  pub once : NoRepeats ts
   pub new : (t : Derivation) → IsIn ts t → IsIn (derivations es) t → ⊥
 
 pub none_new : (j : Judgement) (g : Rules) (ws : List ℕ) (es : List Edge) → AreNew j g ws es []
@@ -91,12 +91,12 @@ no_pair (y ∷ ys) t (inl q) = subst IsNoPair q (kind_no_pair y.kind y)
 no_pair (y ∷ ys) t (inr h) = no_pair ys t h
 
 -- more edges without passive ones
-adds_all : (j : Judgement) (g : Rules) (ws : List ℕ) (old all ts : List Derivation) → IsWorked j g ws old all → ((t : Derivation) → IsIn ts t → InChart j g ws t) → ((t : Derivation) → IsIn ts t → IsNoPair t) → EachOnce ts
+adds_all : (j : Judgement) (g : Rules) (ws : List ℕ) (old all ts : List Derivation) → IsWorked j g ws old all → ((t : Derivation) → IsIn ts t → InChart j g ws t) → ((t : Derivation) → IsIn ts t → IsNoPair t) → NoRepeats ts
     → ((t : Derivation) → IsIn ts t → IsIn all t → ⊥) → IsWorked j g ws old (all ++ ts)
 adds_all j g ws old all [] w c p o n = subst (λ l. IsWorked j g ws old l) (sym (append-nil all)) w
 adds_all j g ws old all (t ∷ ts) w c p o n =
     let one = (rounds j g ws).adds old all t w (c t (inl refl)) (p t (inl refl)) (n t (inl refl)) in
-    let apart : (u : Derivation) → IsIn ts u → IsIn (all ++ t ∷ []) u → ⊥ = λ u h k. elim (in_either all (t ∷ []) u k) [ inl l ↦ n u (inr h) l | inr l ↦ o.0 (subst (λ x. IsIn ts x) (sym (in_one t u l)) h) ] in
+    let apart : (u : Derivation) → IsIn ts u → IsIn (all ++ t ∷ []) u → ⊥ = λ u h k. elim (in_cases all (t ∷ []) u k) [ inl l ↦ n u (inr h) l | inr l ↦ o.0 (subst (λ x. IsIn ts x) (sym (in_one t u l)) h) ] in
     subst (λ l. IsWorked j g ws old l) (append_assoc all (t ∷ []) ts) (adds_all j g ws old (all ++ t ∷ []) ts one (λ u h. c u (inr h)) (λ u h. p u (inr h)) o.1 apart)
 
 module _ (g : Rules) (s : Stored) (v : Shown) (es ys : List Edge) (ts : List Derivation) (each : Each (IsAloneEdge g s v) ts ys) where

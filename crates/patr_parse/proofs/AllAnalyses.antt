@@ -5,9 +5,12 @@ use Rattle.std.specs.List.Sorted.{IsPermutation, IsSorted}
 use Rattle.std.proofs.lemmas.List.Elements.{All-from_recursion, recursion_from_All}
 use Rattle.std.proofs.lemmas.List.Sorted.{All-permutation, IsPermutation-sym, sum_by-IsPermutation}
 use Rattle.std.proofs.lemmas.List.Sums.{sum_by-cons}
-use Rattle.patr_parse.proofs.Names.{Rules, Derivation, Begin, IsChart, places, Shown, Edge, AreEdges, derivations, places_pass, passes_placed, get_below, Stored, keys, Analysis, AreSound, is_whole, HasKey, edge_of, AreAll}
+use Rattle.std.proofs.lemmas.Option.{slice_get_within}
+use Rattle.patr_lists.specs.Members.{IsIn}
+use Rattle.patr_lists.specs.Numbers.{places}
+use Rattle.patr_parse.proofs.Names.{Rules, Derivation, Begin, IsChart, Shown, Edge, AreEdges, derivations, places_pass, passes_placed, Stored, keys, Analysis, AreSound, is_whole, HasKey, edge_of, AreAll}
 use Rattle.patr_model.specs.Derivation.{key}
-use Rattle.patr_model.specs.Chart.{IsIn, IsAnalysis}
+use Rattle.patr_model.specs.Chart.{IsAnalysis}
 use Rattle.patr_model.specs.Laws.{StatesCategories}
 use Rattle.patr_model.specs.Solved.{solved}
 use Rattle.patr_model.proofs.Keys.{keys_tell}
@@ -79,7 +82,7 @@ module _ (g : Rules) (s : Stored) (items : HasItems g s.shown s.rules s.entries)
   is_good k h =
       let p = places_pass (is_whole v (length ws) g.start) 0 es k h in
       let there : slice_get es k ≡ Some p.1 = ap (slice_get es) (omega (arith, p.2)) ∙ p.3 in
-      (get_below es k p.1 there, edge_is_analysis g s items v words es all sound keys.cat ws chart refl k p.1 there p.4)
+      (slice_get_within es k p.1 there, edge_is_analysis g s items v words es all sound keys.cat ws chart refl k p.1 there p.4)
 
   has_every : StatesCategories g keys.cat → (t : Derivation) → IsAnalysis (solved g keys.cat) g ws t → (k : ℕ) × Contains found k × (tree es k ≡ t)
   has_every states t h =

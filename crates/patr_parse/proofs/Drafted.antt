@@ -4,7 +4,6 @@ use Rattle.std.specs.Option.{option_map}
 use Rattle.std.proofs.lemmas.List.{length-map, map-append}
 use Rattle.std.proofs.Math.Seq.{take-length}
 use Rattle.patr_parse.proofs.Names.{Rules, size, Judgement, HasMoreThan, Each, HasPairs, IsWorked, IsSolvable, some_inj, arc, Feature, Ref, Extends, with_block, sentence_of, Shown, IsShown, ValueIsHeld, value_of, still_held, made_of, kind_passive, Back, Edge, HasOrigin, IsEdgeAfter, derivations, derived, derived_by, Stored, rules_of, Draft, ArePlaced, IsDraft, with_root, AreSound, IsSoundEdge, HasMother, IsRootBy, IsRoundAt, Stands, AreSmall, AreWaiting, IsReady, judge, made_by}
-use Rattle.patr_model.specs.Chart.{IsIn}
 use Rattle.patr_arena.specs.declared.value.Ref.TheVariants as ref
 use Rattle.patr_arena.specs.Blocks.{AllOldHeld, OldIsHeld, OldRefIsHeld}
 use Rattle.patr_unify.specs.Copying.{Fits}

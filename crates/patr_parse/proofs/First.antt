@@ -1,8 +1,8 @@
 -- The first edges: the entries of the words, and the rules of the start symbol.
 use Rattle.std.proofs.Common.{◌≡◌, ◌⊎◌, inl, inr, ℕ, suc, ◌+◌, ◌<◌, List, [], ◌++◌, length, Some, slice_get, refl, sym, ap, ◌∙◌, arith, subst, zero-add}
-use Rattle.patr_parse.proofs.Names.{Rules, Derivation, Leaf, Begin, InChart, HasMoreThan, Each, IsNoPair, in_either, rounds, Shown, Edge, derivations, Stored, IsStored, rules_of, Mark, judge, Stands, begun_at, leaves_from, HasMark, IsAloneEdge, ArePredicted, IsMarked}
-use Rattle.patr_model.specs.Chart.{IsIn}
-use Rattle.patr_model.proofs.Rounds.{in_left, in_right, once_append}
+use Rattle.patr_lists.specs.Members.{IsIn}
+use Rattle.patr_lists.proofs.Members.{in_cases, in_left, in_right, once_append}
+use Rattle.patr_parse.proofs.Names.{Rules, Derivation, Leaf, Begin, InChart, HasMoreThan, Each, IsNoPair, rounds, Shown, Edge, derivations, Stored, IsStored, rules_of, Mark, judge, Stands, begun_at, leaves_from, HasMark, IsAloneEdge, ArePredicted, IsMarked}
 use Rattle.patr_parse.proofs.Added.{AreNew, derivations_new, stands_new, passes_new}
 use Rattle.patr_parse.proofs.Items.{rule_item, entry_item, begun_solvable, leaf_solvable, IsBegun, in_begun, begun_in, once_begun, IsLeafOf, in_words, words_in, once_words}
 use Rattle.patr_parse.proofs.Predicting.{mark_there, mark_is, begun_mother, word_is}
@@ -29,7 +29,7 @@ module _ (s : Stored) (stored : IsStored s) (ws : List ℕ) where
       (InChart.first b.item.rule b.item.variant item.variant item.is (item.mother ∙ ap (λ c. Some c) b.mother) (begun_solvable s stored b.item item 0))
 
   leaf_or_start : (t : Derivation) → IsIn first_trees t → IsLeafOf s stored 0 ws t ⊎ IsBegun s stored g.start 0 t
-  leaf_or_start t h = elim (in_either (leaves_from s 0 ws) (begun_at s g.start 0) t h) [ inl k ↦ inl (in_words s stored 0 ws t k) | inr k ↦ inr (in_begun s stored g.start 0 t k) ]
+  leaf_or_start t h = elim (in_cases (leaves_from s 0 ws) (begun_at s g.start 0) t h) [ inl k ↦ inl (in_words s stored 0 ws t k) | inr k ↦ inr (in_begun s stored g.start 0 t k) ]
 
   no_leaf : (t : Derivation) → IsLeafOf s stored 0 ws t → IsBegun s stored g.start 0 t → ⊥
   no_leaf t l b = let e = sym l.leaf.is ∙ b.is in cc
@@ -68,7 +68,7 @@ module _ (s : Stored) (stored : IsStored s) (ws : List ℕ) where
         | inr k ↦ to_first (Begin item.rule item.variant i) (in_right (leaves_from s 0 ws) (begun_at s g.start 0) (Begin item.rule item.variant i)
             (subst (λ x. IsIn (begun_at s g.start 0) (Begin item.rule item.variant x)) k.1 (begun_in s stored g.start 0 n item at (sym k.0))))
       ];
-      begun = λ n i item at b. elim (in_either (leaves_from s 0 ws) (begun_at s g.start 0) (Begin item.rule item.variant i) (subst (λ l. IsIn l (Begin item.rule item.variant i)) trees b)) [
+      begun = λ n i item at b. elim (in_cases (leaves_from s 0 ws) (begun_at s g.start 0) (Begin item.rule item.variant i) (subst (λ l. IsIn l (Begin item.rule item.variant i)) trees b)) [
         | inl k ↦ absurd (not_leaf item.rule item.variant i (in_words s stored 0 ws (Begin item.rule item.variant i) k))
         | inr k ↦ (let same = begun_mother s stored g.start 0 n i item at k in
             subst (λ x. IsMarked new x i) same.0 (subst (λ x. IsMarked new g.start x) same.1 (mark_there [] new g.start 0 h)))

@@ -1,8 +1,10 @@
 -- One more edge is looked at.
 use Rattle.std.proofs.Common.{◌≡◌, ℕ, zero, suc, ◌+◌, ◌<◌, Bool, true, false, cond, List, [], ◌∷◌, ◌++◌, length, map, take, Some, slice_get, refl, sym, ap, ◌∙◌, arith, append-nil}
 use Rattle.std.proofs.lemmas.List.{map-append, length-take-le}
-use Rattle.patr_parse.proofs.Names.{places, some_inj, Edge, AreEdges, get_below, Analysis, edge_of}
-use Rattle.patr_model.proofs.Selected.{places_append}
+use Rattle.std.proofs.lemmas.Option.{slice_get_within}
+use Rattle.patr_lists.proofs.Tables.{places_append}
+use Rattle.patr_lists.specs.Numbers.{places}
+use Rattle.patr_parse.proofs.Names.{some_inj, Edge, AreEdges, Analysis, edge_of}
 
 take_next : (es : List Edge) (n : ℕ) (e : Edge) → slice_get es n ≡ Some e → take (n + 1) es ≡ take n es ++ e ∷ []
 take_next [] n e h = cc
@@ -12,7 +14,7 @@ take_next (x ∷ es) (suc n) e h = let f : suc n + 1 ≡ suc (n + 1) = omega ari
 module _ (T : Edge → Bool) (es : List Edge) (n : ℕ) (e : Edge) (at : slice_get es n ≡ Some e) where
   places_next : places T 0 (take (n + 1) es) ≡ places T 0 (take n es) ++ cond (T e) (n ∷ []) []
   places_next =
-      let long : 0 + length (take n es) ≡ n = omega (arith, length-take-le n es (omega (arith, get_below es n e at))) in
+      let long : 0 + length (take n es) ≡ n = omega (arith, length-take-le n es (omega (arith, slice_get_within es n e at))) in
       ap (places T 0) (take_next es n e at) ∙ (places_append T 0 (take n es) (e ∷ []) ∙ ap (λ k. places T 0 (take n es) ++ cond (T e) (k ∷ []) []) long)
 
   pub found_more : (cs : List Analysis) (a : Analysis) → map edge_of cs ≡ places T 0 (take n es) → edge_of a ≡ n → T e ≡ true → map edge_of (cs ++ a ∷ []) ≡ places T 0 (take (n + 1) es)

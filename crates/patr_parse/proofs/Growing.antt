@@ -1,7 +1,8 @@
 -- What is promised of edges stays true where more nodes and more edges come.
 use Rattle.std.proofs.Common.{◌≡◌, ◌⊎◌, inl, inr, ℕ, zero, suc, ◌+◌, List, [], ◌∷◌, ◌++◌, length, map, get_or, Option, Some, None, slice_get, refl, sym, ap, ◌∙◌, arith, subst, append-nil, append_assoc}
 use Rattle.std.proofs.lemmas.List.{get_or_append_left, get_or-append-add}
-use Rattle.patr_parse.proofs.Names.{Value, Node, Structure, arc, IsValue, IsStructure, IsUnifier, Images, Keeps, Rules, Derivation, Begin, IsLeastValue, some_inj, arc_of_longer, Shown, IsShown, ValueIsHeld, value_of, Extends, held_below, still_held, same_number_held, value_below, Counts, EdgeKind, Rule, Back, Edge, derived, derivations, get_below, from_length, Stored, Bounds, root_of, IsJoined, HasSource, IsSoundEdge, AreSound, made_by, ItemsAreHeld, IsReady, AreWaiting}
+use Rattle.std.proofs.lemmas.Option.{slice_get_within}
+use Rattle.patr_parse.proofs.Names.{Value, Node, Structure, arc, IsValue, IsStructure, IsUnifier, Images, Keeps, Rules, Derivation, Begin, IsLeastValue, some_inj, arc_of_longer, Shown, IsShown, ValueIsHeld, value_of, Extends, held_below, still_held, same_number_held, value_below, Counts, EdgeKind, Rule, Back, Edge, derived, derivations, from_length, Stored, Bounds, root_of, IsJoined, HasSource, IsSoundEdge, AreSound, made_by, ItemsAreHeld, IsReady, AreWaiting}
 use Rattle.patr_model.proofs.Longer.{longer_keeps}
 use Rattle.patr_arena.specs.declared.value.Value as its
 use Rattle.patr_arena.specs.declared.value.Value.TheVariants as value
@@ -139,7 +140,7 @@ sound_more g s v es ys t f h = record { held = h.held; value = h.value; bounds =
 -- edges behind others
 pub sound_pushed : (g : Rules) (s : Stored) (v : Shown) (es ys : List Edge) → derivations (es ++ ys) ≡ derivations es ++ made_by es ys → AreSound g s v es → AreWaiting g s v es ys → AreSound g s v (es ++ ys)
 sound_pushed g s v es ys is sound waiting = λ k f at. elim (get_parts es ys k f at) [
-  | inl old ↦ (let same : tree (es ++ ys) k ≡ tree es k = ap (λ l. get_or l k (Begin 0 0 0)) is ∙ get_or_append_left (derivations es) (made_by es ys) (Begin 0 0 0) k (omega (arith, get_below es k f old, from_length [] es)) in
+  | inl old ↦ (let same : tree (es ++ ys) k ≡ tree es k = ap (λ l. get_or l k (Begin 0 0 0)) is ∙ get_or_append_left (derivations es) (made_by es ys) (Begin 0 0 0) k (omega (arith, slice_get_within es k f old, from_length [] es)) in
       subst (λ t. IsSoundEdge g s v (es ++ ys) t f) (sym same) (sound_more g s v es ys (tree es k) f (sound k f old)))
   | inr new ↦ (let place : k ≡ length (derivations es) + new.0 = (let q = new.1 in omega (arith, q, from_length [] es)) in
       let same : tree (es ++ ys) k ≡ derived (derivations es) f =

@@ -1,10 +1,11 @@
 -- The items of a library, as derivations: each stands for one that has a solution.
 use Rattle.std.proofs.Common.{◌≡◌, ◌⊎◌, inl, inr, ℕ, zero, suc, ◌+◌, ◌<◌, ◌≤◌, Bool, true, false, nat_lt, ltb-true, ltb-false, List, [], ◌∷◌, length, map, Some, slice_get, refl, sym, ap, ◌∙◌, arith, subst, zero-add, eqb-true, eq-eqb}
-use Rattle.patr_parse.proofs.Names.{Value, Structure, Rules, Derivation, Leaf, Begin, IsSolvable, IsLeastValue, EachOnce, IsNoPair, places, some_inj, in_either, variant_steps, places_pass, passes_placed, RuleItem, EntryItem, Stored, IsStored, IsRuleItem, rules_of, root_of, is_of_word, Has, begun_at, leaves_at, leaves_from}
+use Rattle.patr_lists.proofs.Alls.{all_at}
+use Rattle.patr_lists.proofs.Members.{in_cases, in_left, in_right, once_append}
+use Rattle.patr_lists.specs.Numbers.{places}
+use Rattle.patr_lists.specs.Members.{NoRepeats, IsIn}
+use Rattle.patr_parse.proofs.Names.{Value, Structure, Rules, Derivation, Leaf, Begin, IsSolvable, IsLeastValue, IsNoPair, some_inj, variant_steps, places_pass, passes_placed, RuleItem, EntryItem, Stored, IsStored, IsRuleItem, rules_of, root_of, is_of_word, Has, begun_at, leaves_at, leaves_from}
 use Rattle.patr_model.specs.Derivation.{start}
-use Rattle.patr_model.specs.Chart.{IsIn}
-use Rattle.patr_model.proofs.Members.{all_at}
-use Rattle.patr_model.proofs.Rounds.{in_left, in_right, once_append}
 use Rattle.patr_chart.proofs.Passing.{places_rise}
 use Rattle.patr_library.specs.Stored.{Rises, IsEntryItem, is_of_mother}
 use Rattle.patr_parse.specs.Begun.{begun_of, begun, leaf_of, leaf}
@@ -120,7 +121,7 @@ module _ (s : Stored) (stored : IsStored s) where
       subst (λ o. IsIn (begun_at s c i) (begun_of o i)) at
       (map_in (begun s i) (places (is_of_mother c) 0 s.rules) n (is_placed (is_of_mother c) s.rules n item at (eq-eqb item.mother.0 c q)))
 
-  pub once_begun : (c i : ℕ) → EachOnce (begun_at s c i)
+  pub once_begun : (c i : ℕ) → NoRepeats (begun_at s c i)
   unfolding begun_number placed_is
   once_begun c i = once_map (begun s i) 0 (places (is_of_mother c) 0 s.rules) (λ m n hm hn q.
       (let a = begun_number c i m hm in
@@ -161,7 +162,7 @@ module _ (s : Stored) (stored : IsStored s) where
       subst (λ o. IsIn (leaves_at s w i) (leaf_of o i)) at
       (map_in (leaf s i) (places (is_of_word s.lexicon w) 0 s.entries) n (is_placed (is_of_word s.lexicon w) s.entries n item at t))
 
-  once_leaves : (w i : ℕ) → EachOnce (leaves_at s w i)
+  once_leaves : (w i : ℕ) → NoRepeats (leaves_at s w i)
   unfolding leaf_number placed_is
   once_leaves w i = once_map (leaf s i) 0 (places (is_of_word s.lexicon w) 0 s.entries) (λ m n hm hn q.
       (let a = leaf_number w i m hm in
@@ -184,7 +185,7 @@ module _ (s : Stored) (stored : IsStored s) where
 
   pub in_words : (i : ℕ) (ws : List ℕ) (t : Derivation) → IsIn (leaves_from s i ws) t → IsLeafOf i ws t
   in_words i [] t h = absurd h
-  in_words i (w ∷ ws) t h = go (in_words (suc i) ws t) (in_either (leaves_at s w i) (leaves_from s (suc i) ws) t h)
+  in_words i (w ∷ ws) t h = go (in_words (suc i) ws t) (in_cases (leaves_at s w i) (leaves_from s (suc i) ws) t h)
     where
       go : (IsIn (leaves_from s (suc i) ws) t → IsLeafOf (suc i) ws t) → IsIn (leaves_at s w i) t ⊎ IsIn (leaves_from s (suc i) ws) t → IsLeafOf i (w ∷ ws) t
       go rest (inl k) = record { place = zero; word = w; said = refl; leaf = subst (λ n. IsLeaf w n t) (let e : i ≡ i + zero = omega arith in e) (in_leaves w i t k) }
@@ -201,7 +202,7 @@ module _ (s : Stored) (stored : IsStored s) where
       in_right (leaves_at s u i) (leaves_from s (suc i) ws) (Leaf item.entry item.variant (i + suc n) (suc (i + suc n)))
       (subst (λ k. IsIn (leaves_from s (suc i) ws) (Leaf item.entry item.variant k (suc k))) (let e : suc i + n ≡ i + suc n = omega arith in e) (words_in (suc i) ws n w m item said at t))
 
-  pub once_words : (i : ℕ) (ws : List ℕ) → EachOnce (leaves_from s i ws)
+  pub once_words : (i : ℕ) (ws : List ℕ) → NoRepeats (leaves_from s i ws)
   once_words i [] = tt
   once_words i (w ∷ ws) =
       once_append (leaves_at s w i) (leaves_from s (suc i) ws) (once_leaves w i) (once_words (suc i) ws) (λ t h k.

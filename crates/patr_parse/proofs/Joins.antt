@@ -1,12 +1,13 @@
 -- The edge that two edges make.
 use Rattle.std.proofs.Common.{◌≡◌, ◌≢◌, inl, inr, ℕ, suc, ◌+◌, ◌<◌, ◌≤◌, Bool, true, false, List, [], ◌∷◌, ◌++◌, length, append-nil, option_and_then, Some, None, slice_get, refl, sym, ap, ◌∙◌, arith, subst}
+use Rattle.patr_lists.proofs.Places.{get_there}
 use Rattle.patr_parse.proofs.Names.{Value, Atom, Node, Structure, arc, IsReached, IsStructure, IsUnifier, Images, Keeps, Rules, Derivation, Extend, size, IsSolvable, IsLeastValue, some_inj, map_some, arc_value, Feature, Ref, Shown, IsShown, ValueIsHeld, value_of, Extends, with_block, value_below, made_of, Counts, EdgeKind, Rule, Edge, kind_passive, AreEdges, derivations, derived, derived_by, is_judged, Stored, Bounds, HasSource, IsJoined, IsSoundEdge, daughters, Draft, IsDraft, with_root, HasMother, IsRootBy, ArePartners, IsReady}
 use Rattle.patr_model.specs.Structure.{at}
 use Rattle.patr_model.specs.Subsumption.{TakesBoth}
 use Rattle.patr_model.specs.Derivation.{seen, IsPartial, IsComplete}
 use Rattle.patr_model.specs.Solution.{with_slots}
 use Rattle.patr_model.proofs.Maps.{carries_arc}
-use Rattle.patr_model.proofs.Steps.{solves_count, slot_there, takes_of_solution, unifier_of_partial, unifier_of_complete}
+use Rattle.patr_model.proofs.Steps.{solves_count, takes_of_solution, unifier_of_partial, unifier_of_complete}
 use Rattle.patr_arena.specs.declared.value.Value as its
 use Rattle.patr_unify.specs.Copying.{IsMade}
 use Rattle.patr_chart.specs.declared.edge.EdgeKind.TheVariants.{Entry}
@@ -37,7 +38,7 @@ next_slot g t M m part l =
     let G = l.solution.0 in
     let w = l.solution.1 in
     let count = solves_count g t G s.slots part.0 part.1 s.solves in
-    let next = slot_there s.slots (suc (seen t)) (let short = part.2 in omega (arith, count, short)) in
+    let next = get_there s.slots (suc (seen t)) (let short = part.2 in omega (arith, count, short)) in
     let into = l.solution.3.0 in
     let led = carries_arc G M into.by into.is_map w m into.root (suc (seen t)) next.0 (s.value.partial part (suc (seen t)) next.0 next.1) in
     (led.0, led.2)

@@ -3,7 +3,8 @@ use Rattle.std.proofs.Common.{◌≡◌, ℕ, zero, suc, ◌+◌, ◌<◌, Bool,
 use Rattle.std.specs.List.{AllByRecursion, Contains, list_any}
 use Rattle.std.specs.Str.{bytes_eq}
 use Rattle.std.proofs.lemmas.Slice.Eq.{bytes_eq-Decides}
-use Rattle.patr_parse.proofs.Names.{Id, ids, places, some_inj, Stored, places_pass, passes_placed, AreKnownTo}
+use Rattle.patr_lists.specs.Numbers.{places}
+use Rattle.patr_parse.proofs.Names.{Id, ids, some_inj, Stored, places_pass, passes_placed, AreKnownTo}
 use Rattle.patr_text.specs.Texts.{holds}
 use Rattle.patr_model.specs.Table.{IsTable}
 use Rattle.patr_lexicon.specs.Entries.{is_of}

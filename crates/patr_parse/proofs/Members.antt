@@ -1,8 +1,8 @@
 -- Members of lists, by their places.
 use Rattle.std.proofs.Common.{◌≡◌, inl, inr, ℕ, zero, suc, ◌<◌, List, [], ◌∷◌, ◌++◌, length, get_or, Some, slice_get, refl, sym, ap, arith, subst}
 use Rattle.std.specs.List.{AllByRecursion, Contains}
-use Rattle.patr_parse.proofs.Names.{Derivation, EachOnce, some_inj}
-use Rattle.patr_model.specs.Chart.{IsIn}
+use Rattle.patr_lists.specs.Members.{IsIn}
+use Rattle.patr_parse.proofs.Names.{Derivation, some_inj}
 
 pub all_more : {X : Type 0} (P : X → Type 0) (xs : List X) (x : X) → AllByRecursion P xs → P x → AllByRecursion P (xs ++ x ∷ [])
 all_more P [] x h k = (k, tt)

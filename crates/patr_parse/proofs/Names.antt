@@ -1,4 +1,8 @@
 -- What many proofs here name of the crates below.
+pub use Rattle.patr_lists.specs.Numbers.{places}
+pub use Rattle.patr_lists.specs.Members.{NoRepeats}
+pub use Rattle.patr_lists.proofs.Members.{in_cases}
+pub use Rattle.std.proofs.lemmas.Option.{slice_get_within}
 pub use Rattle.patr_arena.proofs.Addresses.{value_below}
 pub use Rattle.patr_arena.proofs.Showing.{held_below, same_number_held, still_held}
 pub use Rattle.patr_arena.specs.Blocks.{Extends, with_block}
@@ -10,7 +14,7 @@ pub use Rattle.patr_arena.specs.declared.value.Feature.{Feature}
 pub use Rattle.patr_arena.specs.declared.value.Ref.{Ref}
 pub use Rattle.patr_chart.proofs.Passing.{passes_placed, places_pass}
 pub use Rattle.patr_chart.proofs.Shown.{is_judged}
-pub use Rattle.patr_chart.proofs.Trees.{from_length, get_below}
+pub use Rattle.patr_chart.proofs.Trees.{from_length}
 pub use Rattle.patr_chart.specs.Charted.{AreEdges, HasOrigin, IsEdgeAfter, derivations, derived, derived_by, partners}
 pub use Rattle.patr_chart.specs.Edges.{is_passive, kind_passive}
 pub use Rattle.patr_chart.specs.Laws.{KindsFit}
@@ -23,13 +27,12 @@ pub use Rattle.patr_library.specs.declared.item.EntryItem.{EntryItem}
 pub use Rattle.patr_library.specs.declared.item.RuleItem.{RuleItem}
 pub use Rattle.patr_marks.specs.Machine.{NoRepeats, own, total}
 pub use Rattle.patr_model.proofs.Maps.{and_then_some, arc_of_longer, some_inj}
-pub use Rattle.patr_model.proofs.Rounds.{in_either, rounds}
+pub use Rattle.patr_model.proofs.Rounds.{rounds}
 pub use Rattle.patr_model.proofs.Steps.{arc_value}
 pub use Rattle.patr_model.proofs.Total.{map_some}
 pub use Rattle.patr_model.proofs.Variants.{variant_steps}
-pub use Rattle.patr_model.specs.Chart.{EachOnce, HasMoreThan, InChart, IsChart, Judgement}
+pub use Rattle.patr_model.specs.Chart.{HasMoreThan, InChart, IsChart, Judgement}
 pub use Rattle.patr_model.specs.Derivation.{Begin, Derivation, Extend, Leaf, Rules, end, size}
-pub use Rattle.patr_model.specs.Numbered.{places}
 pub use Rattle.patr_model.specs.Renaming.{Each}
 pub use Rattle.patr_model.specs.Rounds.{HasPairs, IsNoPair, IsWorked}
 pub use Rattle.patr_model.specs.Settled.{Images, Keeps}

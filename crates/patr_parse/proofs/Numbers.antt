@@ -1,9 +1,9 @@
 -- Lists of edge numbers, and members by number.
 use Rattle.std.proofs.Common.{◌≡◌, ◌⊎◌, inl, inr, ℕ, zero, suc, ◌+◌, ◌<◌, ◌≤◌, List, [], ◌∷◌, ◌++◌, length, map, take, get_or, refl, sym, ap, arith, subst}
-use Rattle.patr_model.specs.Chart.{IsIn}
 use Rattle.std.specs.List.{Contains}
 use Rattle.std.specs.List.Sorted.{IsStrictlyIncreasing}
-use Rattle.patr_parse.proofs.Names.{Derivation, EachOnce, Has}
+use Rattle.patr_lists.specs.Members.{IsIn, NoRepeats}
+use Rattle.patr_parse.proofs.Names.{Derivation, Has}
 
 pub has_last : (xs : List ℕ) (x : ℕ) → Has (xs ++ x ∷ []) x
 has_last [] x = inl refl
@@ -92,7 +92,7 @@ at_in (u ∷ ts) d zero h = inl refl
 at_in (u ∷ ts) d (suc j) h = inr (at_in ts d j (omega (arith, h)))
 
 -- a list without repeats has each member at one number
-pub one_number : (ts : List Derivation) (d : Derivation) → EachOnce ts → (i j : ℕ) → i < length ts → j < length ts → get_or ts i d ≡ get_or ts j d → i ≡ j
+pub one_number : (ts : List Derivation) (d : Derivation) → NoRepeats ts → (i j : ℕ) → i < length ts → j < length ts → get_or ts i d ≡ get_or ts j d → i ≡ j
 one_number [] d o i j h k e = absurd (omega (arith, h))
 one_number (t ∷ ts) d o zero zero h k e = refl
 one_number (t ∷ ts) d o zero (suc j) h k e = absurd (o.0 (subst (λ u. IsIn ts u) (sym e) (at_in ts d j (omega (arith, k)))))
@@ -122,7 +122,7 @@ module _ (f : ℕ → Derivation) where
   map_in (m ∷ ns) n (inl q) = inl (ap f q)
   map_in (m ∷ ns) n (inr h) = inr (map_in ns n h)
 
-  pub once_map : (k : ℕ) (ns : List ℕ) → ((m n : ℕ) → Has ns m → Has ns n → f m ≡ f n → m ≡ n) → Rising k ns → EachOnce (map f ns)
+  pub once_map : (k : ℕ) (ns : List ℕ) → ((m n : ℕ) → Has ns m → Has ns n → f m ≡ f n → m ≡ n) → Rising k ns → NoRepeats (map f ns)
   once_map k [] one r = tt
   once_map k (n ∷ ns) one r = (
     (λ h. (let a = in_map ns (f n) h in let same = one a.0 n (inr a.1) (inl refl) a.2 in omega (arith, above (suc n) ns a.0 r.1 a.1, same))),

@@ -1,12 +1,13 @@
 -- The pairs that a task decides are those of its edge, each once: so the sum of the partners is the number of adjacent pairs.
 use Rattle.std.proofs.Common.{◌≡◌, inl, inr, ℕ, suc, ◌+◌, ◌<◌, ◌≤◌, Bool, List, [], ◌∷◌, ◌++◌, length, take, map, Option, Some, None, slice_get, refl, sym, ap, arith, subst, length-append}
 use Rattle.std.proofs.lemmas.List.{length-map, length-take, take_more}
-use Rattle.patr_parse.proofs.Names.{Rules, Derivation, Begin, EachOnce, HasPairs, Shown, Edge, is_passive, AreEdges, partners, derivations, get_below, KindsFit, Draft, AreMade, pair, Has}
-use Rattle.patr_model.specs.Chart.{IsIn}
+use Rattle.std.proofs.lemmas.Option.{slice_get_within}
+use Rattle.patr_lists.proofs.Tables.{places_length}
+use Rattle.patr_lists.specs.Members.{NoRepeats, IsIn}
+use Rattle.patr_parse.proofs.Names.{Rules, Derivation, Begin, HasPairs, Shown, Edge, is_passive, AreEdges, partners, derivations, KindsFit, Draft, AreMade, pair, Has}
 use Rattle.patr_model.specs.Rounds.{ArePairs, ArePairsOf}
 use Rattle.patr_model.proofs.Rounds.{counted}
 use Rattle.patr_chart.specs.Charted.{is_partner, partners_of, tree}
-use Rattle.patr_chart.proofs.Places.{places_length}
 use Rattle.patr_parse.specs.Drafts.{TaskGave}
 use Rattle.patr_parse.proofs.Numbers.{in_map, in_taken, map_in, once_map, one_number}
 use Rattle.patr_parse.proofs.Tasks.{trees_length, pair_differs, is_partner_of, rising_partners, of_pair, has_pair, task_done}
@@ -19,7 +20,7 @@ partners_few es k = go (slice_get es k)
     go None = omega arith
     go (Some e) = omega (arith, places_length (is_partner e) 0 (take k es), length-take k es)
 
-module _ (g : Rules) (words : ℕ) (es : List Edge) (all : AreEdges words es) (fit : KindsFit g es) (once : EachOnce (derivations es)) (k : ℕ) (e : Edge) (at : slice_get es k ≡ Some e) where
+module _ (g : Rules) (words : ℕ) (es : List Edge) (all : AreEdges words es) (fit : KindsFit g es) (once : NoRepeats (derivations es)) (k : ℕ) (e : Edge) (at : slice_get es k ≡ Some e) where
   pub task_pairs : (b : Bool) → is_passive e ≡ b → ArePairsOf g (take k (derivations es)) (tree es k) (map (pair b es k) (partners es k))
   task_pairs b q = record {
     once = once_map (pair b es k) 0 (partners es k) (λ m n hm hn. pair_differs es once b k m n (below m hm) (below n hn)) (rising_partners es k e at);
@@ -28,7 +29,7 @@ module _ (g : Rules) (words : ℕ) (es : List Edge) (all : AreEdges words es) (f
   }
     where
       below : (j : ℕ) → Has (partners es k) j → j < length es
-      below j h = let p = is_partner_of es k e at j h in get_below es j p.0 p.2
+      below j h = let p = is_partner_of es k e at j h in slice_get_within es j p.0 p.2
 
   -- a task adds the number of its partners
   pub more_pairs : (n : ℕ) → HasPairs g (take k (derivations es)) n → HasPairs g (take (k + 1) (derivations es)) (n + length (partners es k))
@@ -36,7 +37,7 @@ module _ (g : Rules) (words : ℕ) (es : List Edge) (all : AreEdges words es) (f
       let D = derivations es in
       let b = is_passive e in
       let qs = map (pair b es k) (partners es k) in
-      let here : k < length D = omega (arith, get_below es k e at, trees_length es) in
+      let here : k < length D = omega (arith, slice_get_within es k e at, trees_length es) in
       let fresh : IsIn (take k D) (tree es k) → ⊥ = λ i.
       let x = in_taken k D (Begin 0 0 0) (tree es k) i in
       let same = one_number D (Begin 0 0 0) once x.at k x.within here x.is in omega (arith, same, x.before) in

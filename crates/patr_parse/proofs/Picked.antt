@@ -1,6 +1,6 @@
 -- How often a number is a member, and that the numbers of those that pass a test are given once.
 use Rattle.std.proofs.Common.{◌≡◌, ℕ, suc, ◌+◌, ◌<◌, ◌≤◌, Bool, true, false, cond, nat_eq, List, [], ◌∷◌, refl, sym, ap, arith, eqb-true, eq-eqb}
-use Rattle.patr_parse.proofs.Names.{places}
+use Rattle.patr_lists.specs.Numbers.{places}
 
 -- how often n is a member
 abbrev pub tally : Bool → ℕ

@@ -2,19 +2,19 @@
 use Rattle.std.proofs.Common.{◌≡◌, ◌⊎◌, inl, inr, ℕ, zero, suc, ◌+◌, ◌<◌, ◌≤◌, Bool, true, false, cond, ◌&&◌, nat_eq, List, [], ◌∷◌, ◌++◌, length, map, get_or, Option, Some, None, slice_get, option_and_then, refl, sym, ap, ◌∙◌, arith, subst, length-append, eqb-true, eq-eqb, nat_lt, ltb-true, ltb-false}
 use Rattle.std.proofs.lemmas.List.{get_or_append_left}
 use Rattle.std.proofs.lemmas.Option.{slice_get_within}
-use Rattle.patr_parse.proofs.Names.{Value, Atom, Node, Structure, Rules, Derivation, Leaf, Begin, Extend, end, IsSolvable, IsLeastValue, InChart, Each, IsNoPair, some_inj, and_then_some, in_either, Shown, value_of, Edge, derivations, from_length, get_below, RuleItem, EntryItem, Stored, IsStored, rules_of, keys, is_of_word, Mark, AreSound, judge, made_by, Stands, begun_at, begun_by, next_of, HasMark, HasMarkOf, IsAloneEdge, ArePredicted, IsMarked}
+use Rattle.patr_lists.specs.Members.{IsIn}
+use Rattle.patr_lists.proofs.Members.{in_cases, in_left, in_right}
+use Rattle.patr_parse.proofs.Names.{Value, Atom, Node, Structure, Rules, Derivation, Leaf, Begin, Extend, end, IsSolvable, IsLeastValue, InChart, Each, IsNoPair, some_inj, and_then_some, Shown, value_of, Edge, derivations, from_length, RuleItem, EntryItem, Stored, IsStored, rules_of, keys, is_of_word, Mark, AreSound, judge, made_by, Stands, begun_at, begun_by, next_of, HasMark, HasMarkOf, IsAloneEdge, ArePredicted, IsMarked}
 use Rattle.patr_model.specs.Structure.{at}
 use Rattle.patr_model.specs.Category.{atom_of}
 use Rattle.patr_model.specs.Derivation as derivation
 use Rattle.patr_model.specs.Derivation.{RuleVariant, EntryVariant, rule_variant, entry_variant, root_rule, IsPartial, IsComplete}
-use Rattle.patr_model.specs.Chart.{IsIn}
 use Rattle.patr_model.specs.Plain.{slot_category}
 use Rattle.patr_model.specs.Builds.{HasCategories}
 use Rattle.patr_model.specs.Equation.{Equation}
 use Rattle.patr_model.specs.Grammar.{variants}
 use Rattle.patr_model.specs.Build.{entry_variant_of, entry_variants, feature_variants}
 use Rattle.patr_model.specs.Rounds.{IsPredicted}
-use Rattle.patr_model.proofs.Rounds.{in_left, in_right}
 use Rattle.patr_model.proofs.PlainChart.{follows, plainly, slot_atom, slot_is}
 use Rattle.patr_model.proofs.StatedCategories.{are_built}
 use Rattle.patr_chart.specs.Charted.{tree}
@@ -119,7 +119,7 @@ module _ (s : Stored) (ws : List ℕ) (M : ℕ → ℕ → Type 0) (seen : ℕ) 
       | inl k ↦ there_still (Begin item.rule item.variant i) (p.marked n i item at k)
       | inr k ↦ subst (λ l. IsIn l (Begin item.rule item.variant i)) (sym is) (in_right (derivations es) ts (Begin item.rule item.variant i) k)
     ];
-    begun = λ n i item at h. elim (in_either (derivations es) ts (Begin item.rule item.variant i) (subst (λ l. IsIn l (Begin item.rule item.variant i)) is h)) [
+    begun = λ n i item at h. elim (in_cases (derivations es) ts (Begin item.rule item.variant i) (subst (λ l. IsIn l (Begin item.rule item.variant i)) is h)) [
       | inl k ↦ more item.mother.0 i (p.begun n i item at k)
       | inr k ↦ begun n i item at k
     ];
@@ -279,7 +279,7 @@ module _ (s : Stored) (stored : IsStored s) where
   module _ (ws : List ℕ) (v : Shown) (es : List Edge) (sound : AreSound (rules_of s) s v es) (j : ℕ) (stands : Stands (judge s) (rules_of s) ws es j [])
       (marks : List Mark) (seen : ℕ) (h : ArePredicted s ws (IsMarked marks) seen es) (e : Edge) (at_e : slice_get es seen ≡ Some e) where
     here : seen < length es
-    here = get_below es seen e at_e
+    here = slice_get_within es seen e at_e
 
     t : Derivation
     t = tree es seen

@@ -3,7 +3,8 @@ use Rattle.std.proofs.Common.{◌≡◌, ℕ, suc, ◌+◌, ◌<◌, ◌≤◌, 
 use Rattle.std.proofs.lemmas.List.{length-map, length-take-le, take_more, map-append, take-append-drop}
 use Rattle.std.proofs.Math.Seq.{take-length}
 use Rattle.std.proofs.lemmas.Option.{slice_get_within}
-use Rattle.patr_parse.proofs.Names.{Id, Rules, Derivation, Each, Shown, Edge, Stored, leaves_at, leaves_from, ArePushed, IsAloneEdge, places, HasOrigin, IsEdgeAfter, Has}
+use Rattle.patr_lists.specs.Numbers.{places}
+use Rattle.patr_parse.proofs.Names.{Id, Rules, Derivation, Each, Shown, Edge, Stored, leaves_at, leaves_from, ArePushed, IsAloneEdge, HasOrigin, IsEdgeAfter, Has}
 use Rattle.patr_parse.proofs.Numbers.{has_at}
 use Rattle.patr_parse.proofs.Items.{placed_is}
 use Rattle.patr_parse.proofs.Added.{each_append, each_length}

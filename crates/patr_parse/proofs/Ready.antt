@@ -1,9 +1,9 @@
 -- What a round needs is there: before it, and after more edges were predicted.
 use Rattle.std.proofs.Common.{◌≡◌, inl, inr, ℕ, ◌+◌, ◌<◌, ◌≤◌, List, [], ◌∷◌, ◌++◌, length, length-append, append_assoc, take, true, false, refl, sym, ap, ◌∙◌, arith, subst}
 use Rattle.std.proofs.lemmas.List.{take-append-le}
-use Rattle.patr_parse.proofs.Names.{Rules, Derivation, Leaf, Begin, Extend, end, size, Judgement, HasMoreThan, Each, in_either, Shown, Extends, still_held, Edge, EdgeKind, Rule, derivations, Stored, IsStored, rules_of, AreSound, AreSmall, IsReady, ItemsAreHeld, judge, Stands, begun_by, next_of, ArePushed, HasMarkOf, IsAloneEdge, ArePredicted, IsMarked}
-use Rattle.patr_model.specs.Chart.{IsIn}
-use Rattle.patr_model.proofs.Rounds.{in_left}
+use Rattle.patr_lists.specs.Members.{IsIn}
+use Rattle.patr_lists.proofs.Members.{in_cases, in_left}
+use Rattle.patr_parse.proofs.Names.{Rules, Derivation, Leaf, Begin, Extend, end, size, Judgement, HasMoreThan, Each, Shown, Extends, still_held, Edge, EdgeKind, Rule, derivations, Stored, IsStored, rules_of, AreSound, AreSmall, IsReady, ItemsAreHeld, judge, Stands, begun_by, next_of, ArePushed, HasMarkOf, IsAloneEdge, ArePredicted, IsMarked}
 use Rattle.patr_chart.specs.declared.edge.EdgeKind.TheVariants.{Entry}
 use Rattle.patr_chart.specs.Charted.{alone, tree}
 use Rattle.patr_parse.specs.declared.prediction.Prediction.{Prediction}
@@ -59,7 +59,7 @@ module _ (j : Judgement) (g : Rules) (s : Stored) (v : Shown) (ws : List ℕ) (l
   ready_more k stands few r = ready j g s v ws limit (es ++ ys) k stands (sound_new g s v es ys ts each r.sound) r.items small
     where
       small : AreSmall limit (derivations (es ++ ys))
-      small t h = elim (in_either (derivations es) ts t (subst (λ l. IsIn l t) (derivations_new g s v es ys ts each) h)) [
+      small t h = elim (in_cases (derivations es) ts t (subst (λ l. IsIn l t) (derivations_new g s v es ys ts each) h)) [
         | inl old ↦ r.small t old
         | inr new ↦ (let one = alones_small ys t (subst (λ l. IsIn l t) (sym (each_is g s v ts ys each)) new) in omega (arith, one, few, in_long (derivations (es ++ ys)) t h, trees_length (es ++ ys)))
       ]

@@ -2,10 +2,11 @@
 use Rattle.std.proofs.Common.{◌≡◌, inl, inr, ℕ, zero, suc, ◌+◌, ◌<◌, ◌≤◌, List, [], ◌∷◌, ◌++◌, length, take, Option, Some, None, slice_get, refl, sym, ap, ◌∙◌, arith, subst, append-nil, append_assoc, length-append}
 use Rattle.std.proofs.lemmas.List.{map-append, length-map, take_more, take-append-le, get_or_append_left}
 use Rattle.std.proofs.Math.Seq.{take-length}
-use Rattle.patr_parse.proofs.Names.{Rules, Derivation, Begin, Extend, Judgement, InChart, EachOnce, IsChart, HasMoreThan, some_inj, IsWorked, in_either, rounds, EdgeKind, Rule, Back, Edge, HasOrigin, IsEdgeAfter, derived_by, derived, derivations, KindsFit, get_below, made_by, AreSmall, Stands}
-use Rattle.patr_model.specs.Chart.{IsIn}
+use Rattle.std.proofs.lemmas.Option.{slice_get_within}
+use Rattle.patr_lists.proofs.Members.{in_cases, in_left}
+use Rattle.patr_lists.specs.Members.{NoRepeats, IsIn}
+use Rattle.patr_parse.proofs.Names.{Rules, Derivation, Begin, Extend, Judgement, InChart, IsChart, HasMoreThan, some_inj, IsWorked, rounds, EdgeKind, Rule, Back, Edge, HasOrigin, IsEdgeAfter, derived_by, derived, derivations, KindsFit, made_by, AreSmall, Stands}
 use Rattle.patr_model.specs.Rounds.{IsPredicted, IsYield}
-use Rattle.patr_model.proofs.Rounds.{in_left}
 use Rattle.patr_chart.specs.declared.edge.EdgeKind.TheVariants.{Entry}
 use Rattle.patr_chart.specs.Charted.{alone, derivation_at, derivations_from, tree}
 use Rattle.patr_chart.proofs.Trees.{from_append}
@@ -15,7 +16,7 @@ use Rattle.patr_parse.proofs.Numbers.{at_in, in_taken, one_number}
 use Rattle.patr_parse.proofs.Tasks.{trees_length}
 use Rattle.patr_parse.proofs.Growing.{get_parts}
 
-pub once_left : (ts us : List Derivation) → EachOnce (ts ++ us) → EachOnce ts
+pub once_left : (ts us : List Derivation) → NoRepeats (ts ++ us) → NoRepeats ts
 once_left [] us o = tt
 once_left (t ∷ ts) us o = ((λ h. o.0 (in_left ts us t h)), once_left ts us o.1)
 
@@ -26,8 +27,8 @@ derived_more words es more e h = go e.back h.origin
     go : (o : Option Back) → HasOrigin es e o → derived_by (derivations es ++ more) e o ≡ derived_by (derivations es) e o
     go None k = refl
     go (Some b) k =
-        let a = get_below es b.active k.0 k.2 in
-        let p = get_below es b.passive k.1 k.3 in
+        let a = slice_get_within es b.active k.0 k.2 in
+        let p = slice_get_within es b.passive k.1 k.3 in
         let long = trees_length es in
         ap (λ t. Extend t (derivation_at (derivations es ++ more) b.passive)) (get_or_append_left (derivations es) more (Begin 0 0 0) b.active (omega (arith, a, long)))
         ∙ ap (λ t. Extend (derivation_at (derivations es) b.active) t) (get_or_append_left (derivations es) more (Begin 0 0 0) b.passive (omega (arith, p, long)))
@@ -57,7 +58,7 @@ made_of_two words es (y ∷ ys) m t (inl q) =
 made_of_two words es (y ∷ ys) m t (inr h) = made_of_two words es ys (λ n e k. m (suc n) e k) t h
 
 small_append : (limit : ℕ) (ts us : List Derivation) → AreSmall limit ts → AreSmall limit us → AreSmall limit (ts ++ us)
-small_append limit ts us a b t h = elim (in_either ts us t h) [ inl k ↦ a t k | inr k ↦ b t k ]
+small_append limit ts us a b t h = elim (in_cases ts us t h) [ inl k ↦ a t k | inr k ↦ b t k ]
 
 pub round_done : (limit words : ℕ) (es ys : List Edge) → AreSmall limit (derivations es) → MayBePushed words es ys → AreSmall limit (made_by es ys) → length es + length ys ≤ limit → IsRound limit es (es ++ ys)
 round_done limit words es ys small ground made few =

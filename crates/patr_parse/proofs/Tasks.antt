@@ -1,10 +1,11 @@
 -- The edges that a task makes.
 use Rattle.std.proofs.Common.{◌≡◌, inl, inr, ℕ, zero, suc, ◌<◌, Bool, true, false, cond, List, [], ◌∷◌, ◌++◌, length, take, get_or, Some, slice_get, refl, sym, ap, ◌∙◌, arith, subst, append_assoc}
 use Rattle.std.proofs.lemmas.List.{map-append}
-use Rattle.patr_parse.proofs.Names.{Rules, Derivation, Begin, Extend, EachOnce, IsSolvable, Shown, in_either, Edge, is_passive, AreEdges, partners, derived, derivations, KindsFit, get_below, from_length, ArePartners, pair, Has, made_by, Draft, AreMade, IsDraft}
-use Rattle.patr_model.specs.Chart.{IsIn}
+use Rattle.std.proofs.lemmas.Option.{slice_get_within}
+use Rattle.patr_lists.proofs.Members.{in_cases, in_left, in_right, in_one, once_append}
+use Rattle.patr_lists.specs.Members.{NoRepeats, IsIn}
+use Rattle.patr_parse.proofs.Names.{Rules, Derivation, Begin, Extend, IsSolvable, Shown, Edge, is_passive, AreEdges, partners, derived, derivations, KindsFit, from_length, ArePartners, pair, Has, made_by, Draft, AreMade, IsDraft}
 use Rattle.patr_model.specs.Rounds.{IsAdjacent, IsPairOf, IsYield}
-use Rattle.patr_model.proofs.Rounds.{in_left, in_right, in_one, once_append}
 use Rattle.patr_chart.specs.Charted.{tree}
 use Rattle.patr_chart.specs.Laws.{IsPartnerBefore}
 use Rattle.patr_chart.proofs.Partners.{has_partners}
@@ -18,7 +19,7 @@ pub trees_length : (es : List Edge) → length (derivations es) ≡ length es
 trees_length es = omega (arith, from_length [] es)
 
 -- the pairs of two numbers differ
-pub pair_differs : (es : List Edge) → EachOnce (derivations es) → (b : Bool) (k i j : ℕ) → i < length es → j < length es → pair b es k i ≡ pair b es k j → i ≡ j
+pub pair_differs : (es : List Edge) → NoRepeats (derivations es) → (b : Bool) (k i j : ℕ) → i < length es → j < length es → pair b es k i ≡ pair b es k j → i ≡ j
 pair_differs es once true k i j h l e =
     let same : tree es i ≡ tree es j = cc in
     one_number (derivations es) (Begin 0 0 0) once i j (omega (arith, h, trees_length es)) (omega (arith, l, trees_length es)) same
@@ -31,7 +32,7 @@ module _ (g : Rules) (v : Shown) (words : ℕ) (es : List Edge) (limit : ℕ) (b
   made_nothing = record { once = tt; drafts = tt; pairs = λ t h. absurd h; every = λ j h. absurd h }
 
   -- one more pair was decided
-  pub made_more : EachOnce (derivations es) → (js : List ℕ) (j : ℕ) (old new : List Draft) → ((i : ℕ) → Has js i → i < length es) → j < length es → (Has js j → ⊥)
+  pub made_more : NoRepeats (derivations es) → (js : List ℕ) (j : ℕ) (old new : List Draft) → ((i : ℕ) → Has js i → i < length es) → j < length es → (Has js j → ⊥)
       → AreMade g v words es limit b k js old → IsDecided g v words es limit (pair b es k j) old new true → AreMade g v words es limit b k (js ++ j ∷ []) new
   made_more once js j old new below here fresh m (inl d) = subst (AreMade g v words es limit b k (js ++ j ∷ [])) (sym d.0) (record {
     once = m.once;
@@ -49,9 +50,9 @@ module _ (g : Rules) (v : Shown) (words : ℕ) (es : List Edge) (limit : ℕ) (b
       let p = m.pairs t h in
       fresh (subst (λ n. Has js n) (pair_differs es once b k p.0 j (below p.0 p.1) here (sym p.2 ∙ (sym (in_one x t l) ∙ is))) p.1) in
       record {
-        once = subst EachOnce (sym more) (once_append ts (x ∷ []) m.once ((λ h. h), tt) apart);
+        once = subst NoRepeats (sym more) (once_append ts (x ∷ []) m.once ((λ h. h), tt) apart);
         drafts = subst (AreDrafts v words es limit) (sym d.1) (all_more (IsDraft v words es limit) old d.0 m.drafts d.2.2);
-        pairs = λ t h. elim (in_either ts (x ∷ []) t (subst (λ l. IsIn l t) more h)) [
+        pairs = λ t h. elim (in_cases ts (x ∷ []) t (subst (λ l. IsIn l t) more h)) [
           | inl l ↦ (let p = m.pairs t l in (p.0, has_left js j p.0 p.1, p.2, p.3))
           | inr l ↦ (j, has_last js j, sym (in_one x t l) ∙ is, subst (IsSolvable g) (sym is ∙ in_one x t l) d.2.1)
         ];
@@ -93,7 +94,7 @@ item_at xs ys same k d h = there ys k d h ∙ ap (λ l. Some (get_or l k d)) (sy
 
 module _ (g : Rules) (words : ℕ) (es : List Edge) (all : AreEdges words es) (fit : KindsFit g es) (k : ℕ) (e : Edge) (at : slice_get es k ≡ Some e) where
   in_before : (j : ℕ) → j < k → IsIn (take k (derivations es)) (tree es j)
-  in_before j h = taken_in k (derivations es) (Begin 0 0 0) j h (omega (arith, h, get_below es k e at, trees_length es))
+  in_before j h = taken_in k (derivations es) (Begin 0 0 0) j h (omega (arith, h, slice_get_within es k e at, trees_length es))
 
   pair_false : (b : Bool) → b ≡ false → (j : ℕ) → pair b es k j ≡ Extend (tree es k) (tree es j)
   pair_false true h j = cc

@@ -1,6 +1,7 @@
 -- The passive edges of the start symbol over all the words are the analyses.
 use Rattle.std.proofs.Common.{◌≡◌, ℕ, zero, suc, Bool, true, false, cond, ◌&&◌, nat_eq, eqb-true, eq-eqb, List, [], ◌∷◌, length, take, Option, Some, None, option_and_then, slice_get, refl, sym, ap, ◌∙◌, arith, subst}
-use Rattle.patr_parse.proofs.Names.{Value, Atom, Node, Structure, Rules, Derivation, Begin, InChart, IsChart, IsSolvable, IsLeastValue, variant_steps, Shown, value_of, EdgeKind, Rule, Edge, is_passive, HasOrigin, AreEdges, derivations, KindsFit, get_below, from_length, is_judged, RuleItem, Stored, IsRuleItem, keys, root_of, AreSound, is_whole}
+use Rattle.std.proofs.lemmas.Option.{slice_get_within}
+use Rattle.patr_parse.proofs.Names.{Value, Atom, Node, Structure, Rules, Derivation, Begin, InChart, IsChart, IsSolvable, IsLeastValue, variant_steps, Shown, value_of, EdgeKind, Rule, Edge, is_passive, HasOrigin, AreEdges, derivations, KindsFit, from_length, is_judged, RuleItem, Stored, IsRuleItem, keys, root_of, AreSound, is_whole}
 use Rattle.patr_model.specs.Structure as structure
 use Rattle.patr_model.specs.Category.{atom_of, atom_at}
 use Rattle.patr_model.specs.Derivation.{rule_variant}
@@ -89,7 +90,7 @@ module _ (g : Rules) (s : Stored) (items : HasItems g s.shown s.rules s.entries)
 
     module _ (cat : ℕ) (ws : List ℕ) (chart : IsChart (solved g cat) g ws (derivations es)) where
       in_chart : (k : ℕ) (e : Edge) → slice_get es k ≡ Some e → InChart (solved g cat) g ws (tree es k)
-      in_chart k e at = all_get (InChart (solved g cat) g ws) (derivations es) k (Begin 0 0 0) chart.edges (omega (arith, trees_length es, get_below es k e at))
+      in_chart k e at = all_get (InChart (solved g cat) g ws) (derivations es) k (Begin 0 0 0) chart.edges (omega (arith, trees_length es, slice_get_within es k e at))
 
       pub edge_of_tree : (t : Derivation) → InChart (solved g cat) g ws t → (k : ℕ) × (e : Edge) × (slice_get es k ≡ Some e) × (tree es k ≡ t)
       edge_of_tree t h =

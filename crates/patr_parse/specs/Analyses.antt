@@ -1,9 +1,10 @@
 -- The edges that are analyses.
 use Rattle.std.specs.Prelude.{◌≡◌, ℕ, suc, ◌≤◌, Bool, false, ◌&&◌, nat_eq, List, [], ◌∷◌, length, map, Option, Some, None, slice_get}
 use Rattle.std.specs.List.{AllByRecursion}
+use Rattle.patr_lists.specs.Members.{IsIn}
 use Rattle.patr_model.specs.Category.{atom_at}
 use Rattle.patr_model.specs.Derivation.{Rules, Derivation, key}
-use Rattle.patr_model.specs.Chart.{IsIn, IsAnalysis}
+use Rattle.patr_model.specs.Chart.{IsAnalysis}
 use Rattle.patr_model.specs.Session as session
 use Rattle.patr_model.specs.Solved.{solved}
 use Rattle.patr_arena.specs.Shown.{Shown, ValueIsHeld, value_of}

@@ -1,9 +1,9 @@
 -- The edges that need no passive edge, as they are put into a chart.
 use Rattle.std.specs.Prelude.{◌≡◌, ℕ, suc, ◌+◌, ◌<◌, ◌≤◌, Bool, true, false, cond, ◌&&◌, nat_eq, List, [], ◌∷◌, ◌++◌, length, map, Option, Some, None, slice_get}
 use Rattle.std.specs.List.{list_any}
+use Rattle.patr_lists.specs.Numbers.{places}
 use Rattle.patr_model.specs.Derivation.{Rules, Derivation, Leaf, Begin, seen}
 use Rattle.patr_model.specs.Plain.{slot_category}
-use Rattle.patr_model.specs.Numbered.{places}
 use Rattle.patr_model.specs.Renaming.{Each}
 use Rattle.patr_arena.specs.Shown.{Shown}
 use Rattle.patr_chart.specs.declared.edge.Edge.{Edge}

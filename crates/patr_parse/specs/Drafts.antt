@@ -6,9 +6,9 @@
 use Rattle.std.specs.Prelude.{◌≡◌, ◌⊎◌, ◌+◌, ◌<◌, ◌≤◌, ℕ, Bool, true, false, List, [], ◌∷◌, ◌++◌, length, map, take, Some, slice_get, Vec}
 use Rattle.std.specs.declared.alloc.Global.{Global}
 use Rattle.std.specs.List.{AllByRecursion}
+use Rattle.patr_lists.specs.Members.{NoRepeats, IsIn}
 use Rattle.patr_model.specs.Structure.{Node}
 use Rattle.patr_model.specs.Derivation.{Rules, Derivation, size}
-use Rattle.patr_model.specs.Chart.{EachOnce, IsIn}
 use Rattle.patr_model.specs.Renaming.{Each}
 use Rattle.patr_model.specs.Rounds.{HasPairs, IsYield}
 use Rattle.patr_model.specs.Solution.{IsSolvable}
@@ -68,7 +68,7 @@ IsDecided g v words es limit t old new false = HasCombined g v words es limit t 
 
 -- the drafts of edge k with these others, where edge k is passive or not
 pub record AreMade (g : Rules) (v : Shown) (words : ℕ) (es : List Edge) (limit : ℕ) (b : Bool) (k : ℕ) (js : List ℕ) (ds : List Draft) : Type 0 where
-  pub once : EachOnce (made_by es (edges_of ds))
+  pub once : NoRepeats (made_by es (edges_of ds))
   pub drafts : AreDrafts v words es limit ds
   pub pairs : (t : Derivation) → IsIn (made_by es (edges_of ds)) t → (j : ℕ) × Has js j × (t ≡ pair b es k j) × IsSolvable g t
   pub every : (j : ℕ) → Has js j → IsSolvable g (pair b es k j) → IsIn (made_by es (edges_of ds)) (pair b es k j)

@@ -2,12 +2,13 @@
 --     IsSound g cat s ws p     all that is promised of it, for the words ws
 use Rattle.std.specs.Prelude.{◌≡◌, ◌⊎◌, ℕ, suc, ◌≤◌, true, false, List, [], ◌∷◌, length, map, Option, Some, None, slice_get}
 use Rattle.std.specs.List.{AllByRecursion}
+use Rattle.patr_lists.specs.Members.{IsIn}
 use Rattle.patr_model.specs.Structure.{Value, arc}
 use Rattle.patr_model.specs.Subsumption.{IsUnifier}
 use Rattle.patr_model.specs.Settled.{Images, Keeps}
 use Rattle.patr_model.specs.Derivation.{Rules, Derivation, size}
 use Rattle.patr_model.specs.Solution.{IsLeastValue}
-use Rattle.patr_model.specs.Chart.{IsChart, HasMoreThan, IsAnalysis, IsIn}
+use Rattle.patr_model.specs.Chart.{IsChart, HasMoreThan, IsAnalysis}
 use Rattle.patr_model.specs.Solved.{solved}
 use Rattle.patr_model.specs.Rounds.{HasPairs}
 use Rattle.patr_model.specs.Session as session

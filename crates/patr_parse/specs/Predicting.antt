@@ -1,7 +1,7 @@
 -- What a chart has of the edges that need no passive edge.
 use Rattle.std.specs.Prelude.{◌≡◌, ℕ, suc, ◌<◌, ◌≤◌, List, [], ◌++◌, length, take, true, Some, slice_get}
+use Rattle.patr_lists.specs.Members.{IsIn}
 use Rattle.patr_model.specs.Derivation.{Leaf, Begin, end}
-use Rattle.patr_model.specs.Chart.{IsIn}
 use Rattle.patr_chart.specs.declared.edge.Edge.{Edge}
 use Rattle.patr_chart.specs.Charted.{derivations, tree}
 use Rattle.patr_library.specs.declared.item.RuleItem.{RuleItem}

@@ -1,7 +1,8 @@
 -- Where the rounds of a sentence stand.
 use Rattle.std.specs.Prelude.{◌≡◌, ℕ, ◌+◌, ◌≤◌, List, ◌++◌, take, length, Some, slice_get}
+use Rattle.patr_lists.specs.Members.{IsIn}
 use Rattle.patr_model.specs.Derivation.{Rules, Derivation, Extend}
-use Rattle.patr_model.specs.Chart.{Judgement, IsIn}
+use Rattle.patr_model.specs.Chart.{Judgement}
 use Rattle.patr_model.specs.Rounds.{IsWorked}
 use Rattle.patr_chart.specs.declared.edge.Back.{Back}
 use Rattle.patr_chart.specs.declared.edge.Edge.{Edge}

@@ -1,7 +1,8 @@
 -- What a task decides: the pairs of an edge with its partners.
 use Rattle.std.specs.Prelude.{◌≡◌, ◌⊎◌, ℕ, ◌<◌, ◌≤◌, Bool, cond, List, [], ◌∷◌, ◌++◌, take, map, Some, slice_get}
+use Rattle.patr_lists.specs.Members.{IsIn, NoRepeats}
 use Rattle.patr_model.specs.Derivation.{Rules, Derivation, Extend, size}
-use Rattle.patr_model.specs.Chart.{Judgement, IsIn, EachOnce}
+use Rattle.patr_model.specs.Chart.{Judgement}
 use Rattle.patr_model.specs.Rounds.{IsPair, IsYield}
 use Rattle.patr_arena.specs.Shown.{Shown, IsShown, IsHeld}
 use Rattle.patr_arena.specs.Blocks.{Extends}
@@ -55,7 +56,7 @@ ItemsAreHeld s v = (n : ℕ) (i : RuleItem) → slice_get s.rules n ≡ Some i �
 -- what a task needs of the chart and the nodes
 pub record IsReady (g : Rules) (s : Stored) (v : Shown) (limit : ℕ) (es : List Edge) : Type 0 where
   pub fit : KindsFit g es
-  pub once : EachOnce (derivations es)
+  pub once : NoRepeats (derivations es)
   pub sound : AreSound g s v es
   pub items : ItemsAreHeld s v
   pub small : AreSmall limit (derivations es)

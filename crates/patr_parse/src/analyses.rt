@@ -1,13 +1,13 @@
 //! The analyses of a sentence: the whole edges of its closed chart with the start symbol, sorted by their keys.
 ghost use Rattle.std.specs.Prelude.{◌≡◌, ◌∷◌, [], ◌≤◌, length, map, IfOk};
 ghost use Rattle.std.specs.List.{AllByRecursion};
+ghost use Rattle.patr_lists.specs.Numbers.{places};
 ghost use Rattle.patr_arena.specs.Paths.{ids};
 ghost use Rattle.patr_arena.specs.Shown.{ValueIsHeld};
 ghost use Rattle.patr_arena.specs.Views.{view_of};
 ghost use Rattle.patr_chart.specs.Charted.{AreEdges, derivations, starts_at};
 ghost use Rattle.patr_library.specs.Stored.{IsStored, keys, rules_of};
 ghost use Rattle.patr_model.specs.Chart.{IsChart};
-ghost use Rattle.patr_model.specs.Numbered.{places};
 ghost use Rattle.patr_model.specs.Solved.{solved};
 ghost use Rattle.patr_parse.specs.Analyses.{AreAll, HasKey, RootsAreHeld, edge_of, has_category, is_whole};
 ghost use Rattle.patr_parse.specs.Found.{AreSound};

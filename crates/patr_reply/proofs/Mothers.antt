@@ -1,10 +1,10 @@
 -- The mother of a rule's variant, by the library's item.
 use Rattle.std.proofs.Common.{◌≡◌, ℕ, ◌<◌, Some, slice_get, sym, ap, ◌∙◌, subst}
 use Rattle.std.proofs.lemmas.Option.{get_or_from_slice_get}
+use Rattle.patr_lists.proofs.Alls.{all_at}
 use Rattle.patr_model.specs.Derivation.{RuleVariant, rule_variant}
 use Rattle.patr_model.specs.Text.{mother_category}
 use Rattle.patr_model.proofs.Maps.{some_inj}
-use Rattle.patr_model.proofs.Members.{all_at}
 use Rattle.patr_library.specs.declared.item.RuleItem.{RuleItem}
 use Rattle.patr_library.specs.Stored.{Stored, IsStored, IsRuleItem, rules_of}
 use Rattle.patr_reply.specs.Sources.{IsRuleOf}

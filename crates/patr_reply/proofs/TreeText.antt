@@ -2,11 +2,12 @@
 use Rattle.std.proofs.Common.{◌≡◌, ℕ, ◌+◌, ◌<◌, List, [], ◌∷◌, ◌++◌, length, cond, Some, None, slice_get, Result, Ok, Err, IfOk, codes, refl, sym, subst, ap, ◌∙◌, arith, append_assoc, append-nil}
 use Rattle.std.specs.List.{AllByRecursion}
 use Rattle.std.specs.Result.{is_ok}
+use Rattle.std.proofs.lemmas.Option.{slice_get_within}
+use Rattle.patr_lists.proofs.Alls.{all_append}
 use lib.Utf8.{encode}
 use Rattle.patr_model.specs.Derivation.{Rules, entry_variant, rule_variant}
 use Rattle.patr_model.specs.Text.{Look, printed, entry_category, entry_word, mother_category, open_tree}
 use Rattle.patr_model.specs.Session.{Numbering, AgreesWith}
-use Rattle.patr_model.proofs.Members.{all_append}
 use Rattle.patr_chart.specs.declared.edge.EdgeKind.{EdgeKind}
 use Rattle.patr_chart.specs.declared.edge.EdgeKind.TheVariants.{Entry, Rule}
 use Rattle.patr_chart.specs.declared.edge.Back.{Back}
@@ -17,7 +18,7 @@ use Rattle.patr_chart.specs.Charted.{alone, AreEdges}
 use Rattle.patr_chart.specs.Pending.{weight}
 use Rattle.patr_reply.specs.Lines.{look_by}
 use Rattle.patr_reply.specs.Writing.{root_text, step_text, steps_text, step_weight, steps_weight, IsHeld, IsStep}
-use Rattle.patr_chart.proofs.Trees.{tree_alone, tree_longer, get_below}
+use Rattle.patr_chart.proofs.Trees.{tree_alone, tree_longer}
 
 -- texts in a row
 pub four : (a s p c rest : List ℕ) → a ++ (s ++ (p ++ (c ++ rest))) ≡ (((a ++ s) ++ p) ++ c) ++ rest
@@ -91,7 +92,7 @@ module _ (table : List (List ℕ)) (g : Rules) (es : List Edge) (ss : List Step)
     parts_step words all b some out =
         let parts : List Step = Mark 41 ∷ Tree b.passive ∷ Mark 32 ∷ Tree b.active ∷ [] in
         let longer = tree_longer words es all k e b at some in
-        let below = get_below es k e at in
+        let below = slice_get_within es k e at in
         record {
           text = λ names agrees.
               let l = look_by names in

@@ -2,7 +2,8 @@ use Rattle.std.proofs.Common.{◌≡◌, ℕ, ◌∙◌, List, length, map, sym,
 use Rattle.std.specs.List.Sorted.{IsSorted}
 use Rattle.std.proofs.lemmas.List.{length-map}
 use Rattle.std.proofs.lemmas.Result.{IfOk-weaker}
-use Rattle.patr_parse.proofs.Names.{Id, places, ids, view_of, keys, rules_of, AreAll, edge_of, is_whole}
+use Rattle.patr_lists.specs.Numbers.{places}
+use Rattle.patr_parse.proofs.Names.{Id, ids, view_of, keys, rules_of, AreAll, edge_of, is_whole}
 use Rattle.patr_model.proofs.StatedCategories.{are_built}
 use Rattle.patr_library.specs.Stored.{entries_of, grammar_of, number}
 use Rattle.patr_parse.proofs.Ordered.{analysis_cmp}

@@ -1,6 +1,7 @@
 use Rattle.std.proofs.Common.{◌≡◌, ◌<◌, ◌++◌, ◌∷◌, [], Bool, List, map, take, ◌+◌, refl, sym, ap, ◌∙◌, subst}
 use Rattle.std.specs.List.{AllByRecursion}
-use Rattle.patr_parse.proofs.Names.{places, view_of, Edge, AreEdges, Analysis, HasKey, edge_of, is_whole}
+use Rattle.patr_lists.specs.Numbers.{places}
+use Rattle.patr_parse.proofs.Names.{view_of, Edge, AreEdges, Analysis, HasKey, edge_of, is_whole}
 use Rattle.patr_parse.proofs.Members.{all_more}
 use Rattle.patr_parse.proofs.Gathered.{found_more, found_same}
 use Rattle.patr_parse.proofs.analyses.whole_edges.Goals as goal

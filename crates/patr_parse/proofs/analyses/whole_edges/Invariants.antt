@@ -1,6 +1,7 @@
 use Rattle.std.proofs.Common.{◌≡◌, ◌<◌, map, take}
 use Rattle.std.specs.List.{AllByRecursion}
-use Rattle.patr_parse.proofs.Names.{places, view_of, AreEdges, HasKey, edge_of, is_whole}
+use Rattle.patr_lists.specs.Numbers.{places}
+use Rattle.patr_parse.proofs.Names.{view_of, AreEdges, HasKey, edge_of, is_whole}
 use Rattle.patr_parse.proofs.analyses.whole_edges.Given as goal
 
 abbrev pub invariant-loop-number : goal.invariant-loop-number

@@ -1,5 +1,5 @@
 use Rattle.std.proofs.Common.{length, sym, ap, ◌∙◌, eqb-true, eq-eqb}
-use Rattle.patr_parse.proofs.Names.{places}
+use Rattle.patr_lists.specs.Numbers.{places}
 use Rattle.patr_lexicon.specs.Entries.{is_of}
 use Rattle.patr_parse.proofs.KnownWords.{not_held, no_entries, some_entries}
 use Rattle.patr_parse.proofs.sentence.known_word.Goals as goal

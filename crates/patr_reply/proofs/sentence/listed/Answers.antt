@@ -1,9 +1,9 @@
 use Rattle.std.proofs.Common.{◌++◌, [], length, codes, decimal, sym, ap, ◌∙◌, arith, append-nil}
 use Rattle.std.proofs.lemmas.List.{take_all}
 use Rattle.std.specs.String.{string_bytes}
+use Rattle.std.proofs.lemmas.Option.{slice_get_within}
 use Rattle.patr_model.specs.Session.{line}
 use Rattle.patr_model.specs.Table.{table_look}
-use Rattle.patr_chart.proofs.Trees.{get_below}
 use Rattle.patr_library.specs.Stored.{rules_of}
 use Rattle.patr_parse.proofs.Members.{all_get}
 use Rattle.patr_reply.specs.Lines.{listing, look_by}
@@ -18,7 +18,7 @@ pub write_line-requires-clause-number : goal.write_line-requires-clause-number
 write_line-requires-clause-number g c =
     let es = c.args.chart.now.edges in
     let ready = all_get (IsReady (length c.args.symbols.now) (g.N.Nodes.shown c.args.nodes.now) es) c.args.analyses.now c.loop-place.place 0 c.requires.ready c.loop-place-test.true in
-    get_below es _ ready.edge ready.there
+    slice_get_within es _ ready.edge ready.there
 
 pub write_value-requires : goal.write_value-requires
 write_value-requires g c = all_get (IsReady (length c.args.symbols.now) (g.N.Nodes.shown c.args.nodes.now) c.args.chart.now.edges) c.args.analyses.now c.loop-place.place 0 c.requires.ready c.loop-place-test.true

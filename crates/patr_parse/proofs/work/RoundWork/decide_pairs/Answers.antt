@@ -1,7 +1,8 @@
 use Rattle.std.proofs.Common.{◌≡◌, ◌<◌, ◌+◌, [], ◌∙◌, ℕ, cond, true, false, length, take, get_or, sym, ap, subst, arith, rules}
 use Rattle.std.proofs.lemmas.List.{take_more}
 use Rattle.std.proofs.Math.Seq.{take-length}
-use Rattle.patr_parse.proofs.Names.{Extend, size, IsSolvable, partners, get_below, rules_of, AreMade, ArePartners, Has, pair}
+use Rattle.std.proofs.lemmas.Option.{slice_get_within}
+use Rattle.patr_parse.proofs.Names.{Extend, size, IsSolvable, partners, rules_of, AreMade, ArePartners, Has, pair}
 use Rattle.patr_chart.specs.Charted.{tree}
 use Rattle.patr_parse.specs.Drafts.{IsDecided}
 use Rattle.patr_parse.proofs.Numbers.{Rising, has_at, has_taken, not_before}
@@ -56,7 +57,7 @@ loop-other-preserved g c =
     let b = c.is_passive-passive.result in
     let is : items ≡ partners es c.args.k = c.partners-other-items.ensures in
     let below : (n : ℕ) → Has items n → n < length es = λ n h.
-    let p = is_partner_of es c.args.k c.edge.result.now c.edge.ensures.there n (subst (λ l. Has l n) is h) in get_below es n p.0 p.2 in
+    let p = is_partner_of es c.args.k c.edge.result.now c.edge.ensures.there n (subst (λ l. Has l n) is h) in slice_get_within es n p.0 p.2 in
     let done : c.in_ok-decide_one.field-0 ≡ true = search rules in
     let same = pair_ordered b es c.args.k j c.ordered-pair.result.0 c.ordered-pair.result.1 c.ordered-pair.ensures.active c.ordered-pair.ensures.passive in
     let decided = subst (λ q. IsDecided r v words es limit (pair b es c.args.k j) c.loop-other.made.items c.decide_one.new.made.items q) done
