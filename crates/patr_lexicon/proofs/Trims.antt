@@ -54,7 +54,7 @@ trimmed_is bs rest n front end =
     let same : rest ≡ trimmed_front bs = front ∙ sym (front_is bs) in
     sym (ap reverse (front_is (reverse (trimmed_front bs))) ∙ ap (λ l. reverse (drop (suffix_len is_edge l) (reverse l))) (sym same) ∙ drop_reversed rest n (suffix_len is_edge rest) end)
 
-not_not : (t : Bool) → not t ≡ false → t ≡ true
+pub not_not : (t : Bool) → not t ≡ false → t ≡ true
 not_not true h = refl
 not_not false h = absurd cc
 

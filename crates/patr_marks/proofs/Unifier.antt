@@ -1,9 +1,10 @@
 -- At the end of a run: a unifier, or nothing that takes both.
 use Rattle.std.proofs.Common.{◌≡◌, ℕ, zero, suc, ◌+◌, ◌<◌, inl, inr, Bool, true, false, cond, ◌||◌, List, [], ◌∷◌, ◌++◌, length, Option, Some, None, option_and_then, refl, sym, ap, ◌∙◌, subst, nat_eq, eqb-true, eq-eqb}
 use Rattle.std.proofs.lemmas.Bool.{cases_eq}
+use Rattle.patr_lists.specs.Members.{IsIn}
 use Rattle.patr_model.specs.Structure.{Value, Atom, Node, Arcs, Structure, along, arc, at, IsBelow, IsStructure, IsValue}
 use Rattle.patr_model.specs.Subsumption.{image, IsMap, MapsInto, TakesBoth, IsUnifier}
-use Rattle.patr_marks.specs.Machine.{Pair, ends, Has, has_attribute, pair_with, matches, State, own, arcs_at, IsMerge, IsBind, IsSkip, IsClash, IsMarked, Within, LogWithin, PairsWithin, IsWithin, IsClosed, Takes, IsIn}
+use Rattle.patr_marks.specs.Machine.{Pair, ends, Has, has_attribute, pair_with, matches, State, own, arcs_at, IsMerge, IsBind, IsSkip, IsClash, IsMarked, Within, LogWithin, PairsWithin, IsWithin, IsClosed, Takes}
 use Rattle.patr_marks.specs.Sides.{shift, sides, IsSide}
 use Rattle.patr_marks.specs.Quotient.{Below, IsOrder, place, placed, built, becomes}
 use Rattle.patr_marks.specs.Walk.{Leads, ReachedIn, IsWalk}

@@ -1,7 +1,8 @@
 -- The walk finds an order, or a cycle; and nothing takes a cycle.
 use Rattle.std.proofs.Common.{◌≡◌, ℕ, zero, suc, ◌<◌, inl, inr, List, [], ◌∷◌, Some, refl, sym, ap, ◌∙◌, arith, subst}
+use Rattle.patr_lists.specs.Members.{IsIn}
 use Rattle.patr_model.specs.Structure.{Value, Atom, Node, Structure, arc, IsBelow, IsStructure}
-use Rattle.patr_marks.specs.Machine.{ends, Has, State, arcs_at, IsEnd, IsIn, IsLog, Takes, IsForced}
+use Rattle.patr_marks.specs.Machine.{ends, Has, State, arcs_at, IsEnd, IsLog, Takes, IsForced}
 use Rattle.patr_marks.specs.Quotient.{Below}
 use Rattle.patr_marks.specs.Walk.{Leads, LeadsFrom, IsChain, ReachedIn, IsWalk}
 use Rattle.patr_marks.proofs.Lists.{ends_agree, ends_twice}

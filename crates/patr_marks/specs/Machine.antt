@@ -192,21 +192,6 @@ abbrev pub lookup : List Forward → ℕ → Option Value
 lookup [] k = None
 lookup (e ∷ log) k = cond (nat_eq k e.from) (Some e.to) (lookup log k)
 
--- the list has this number
-abbrev pub IsIn : List ℕ → ℕ → Type 0
-IsIn [] k = ⊥
-IsIn (j ∷ js) k = (j ≡ k) ⊎ IsIn js k
-
--- no number stands twice in the list
-abbrev pub NoRepeats : List ℕ → Type 0
-NoRepeats [] = Unit {0}
-NoRepeats (j ∷ js) = (IsIn js j → ⊥) × NoRepeats js
-
--- the sum of f over the list
-abbrev pub total : (ℕ → ℕ) → List ℕ → ℕ
-total f [] = 0
-total f (k ∷ ks) = f k + total f ks
-
 -- the number of attributes of an end's arcs, and nothing for a place that was forwarded
 abbrev pub weight : Structure → State → ℕ → ℕ
 weight D s k = cond (is_forwarded s.log k) 0 (degree (arcs_at D s k))

@@ -6,9 +6,10 @@
 --     IsUntouched     a side node that keeps its place
 --     IsTidy          what the end of a run has besides
 use Rattle.std.specs.Prelude.{◌≡◌, ℕ, zero, suc, ◌+◌, ◌-◌, ◌<◌, ◌⊎◌, Bool, true, false, cond, ◌&&◌, nat_eq, nat_lt, List, [], ◌∷◌, ◌++◌, length, Option, Some, None}
+use Rattle.patr_lists.specs.Members.{IsIn}
 use Rattle.patr_model.specs.Structure.{Value, Atom, Node, Arcs, Structure, arc, at, IsStructure, IsValue}
 use Rattle.patr_model.specs.Subsumption.{IsUnifier}
-use Rattle.patr_marks.specs.Machine.{Has, has_attribute, own, Within, IsIn, Reaches}
+use Rattle.patr_marks.specs.Machine.{Has, has_attribute, own, Within, Reaches}
 use Rattle.patr_marks.specs.Quotient.{Below}
 use Rattle.patr_marks.specs.Sides.{shift, sides, IsSide}
 

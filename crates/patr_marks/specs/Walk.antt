@@ -1,7 +1,8 @@
 -- The walk over the ends that are places, depth first.
 use Rattle.std.specs.Prelude.{◌≡◌, ℕ, zero, suc, ◌⊎◌, List, [], ◌∷◌}
+use Rattle.patr_lists.specs.Members.{NoRepeats, IsIn}
 use Rattle.patr_model.specs.Structure.{Value, Node, Structure}
-use Rattle.patr_marks.specs.Machine.{ends, Has, State, arcs_at, IsEnd, IsIn, NoRepeats}
+use Rattle.patr_marks.specs.Machine.{ends, Has, State, arcs_at, IsEnd}
 use Rattle.patr_marks.specs.Quotient.{IsOrder}
 
 -- an arc of the end j leads to the end k

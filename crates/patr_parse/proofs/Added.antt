@@ -2,13 +2,14 @@
 use Rattle.std.proofs.Common.{◌≡◌, inl, inr, ℕ, zero, suc, ◌+◌, ◌<◌, List, [], ◌∷◌, ◌++◌, length, take, map, Some, None, slice_get, refl, sym, ap, ◌∙◌, arith, subst, append-nil, append_assoc, length-append}
 use Rattle.std.specs.List.{AllByRecursion}
 use Rattle.std.proofs.lemmas.List.{length-map, take-append-le}
+use Rattle.patr_lists.proofs.Places.{get_parts}
 use Rattle.patr_lists.proofs.Members.{in_cases, in_one}
 use Rattle.patr_lists.specs.Members.{NoRepeats, IsIn}
 use Rattle.patr_parse.proofs.Names.{Rules, Derivation, Judgement, InChart, HasMoreThan, Each, IsWorked, IsNoPair, some_inj, rounds, Shown, EdgeKind, Rule, Edge, derived_by, derived, derivations, KindsFit, from_length, Stored, IsSoundEdge, AreSound, IsAloneEdge, Stands, made_by, AreWaiting}
 use Rattle.patr_chart.specs.declared.edge.EdgeKind.TheVariants.{Entry}
 use Rattle.patr_chart.specs.Charted.{alone, derivations_from}
 use Rattle.patr_chart.proofs.Trees.{from_append}
-use Rattle.patr_parse.proofs.Growing.{get_parts, sound_more, sound_pushed}
+use Rattle.patr_parse.proofs.Growing.{sound_more, sound_pushed}
 
 abbrev pub alone_edge : Edge → Derivation
 alone_edge e = alone e.kind e

@@ -6,6 +6,8 @@ use Rattle.std.proofs.lemmas.List.Elements.{All-from_recursion, recursion_from_A
 use Rattle.std.proofs.lemmas.List.Sorted.{All-permutation, IsPermutation-sym, sum_by-IsPermutation}
 use Rattle.std.proofs.lemmas.List.Sums.{sum_by-cons}
 use Rattle.std.proofs.lemmas.Option.{slice_get_within}
+use Rattle.patr_lists.proofs.Members.{one_place}
+use Rattle.patr_lists.proofs.Alls.{all_weaker, all_of}
 use Rattle.patr_lists.specs.Members.{IsIn}
 use Rattle.patr_lists.specs.Numbers.{places}
 use Rattle.patr_parse.proofs.Names.{Rules, Derivation, Begin, IsChart, Shown, Edge, AreEdges, derivations, places_pass, passes_placed, Stored, keys, Analysis, AreSound, is_whole, HasKey, edge_of, AreAll}
@@ -17,8 +19,6 @@ use Rattle.patr_model.proofs.Keys.{keys_tell}
 use Rattle.patr_model.proofs.Prediction.{prediction_drops_none}
 use Rattle.patr_chart.specs.Charted.{tree}
 use Rattle.patr_library.specs.Stored.{HasItems}
-use Rattle.patr_parse.proofs.Members.{all_of, weaker}
-use Rattle.patr_parse.proofs.Numbers.{one_number}
 use Rattle.patr_parse.proofs.Picked.{tally, times, places_once}
 use Rattle.patr_parse.proofs.Ordered.{analysis_cmp, adjacent, rises}
 use Rattle.patr_parse.proofs.Tasks.{trees_length}
@@ -73,7 +73,7 @@ module _ (g : Rules) (s : Stored) (items : HasItems g s.shown s.rules s.entries)
   told : (k l : ℕ) → IsGood k → IsGood l → key (tree es k) ≡ key (tree es l) → k ≡ l
   told k l h i e =
       let same = (keys_tell g ws (tree es k) (tree es l) [] [] h.1.derivation i.1.derivation h.1.complete i.1.complete (h.1.start ∙ sym i.1.start) (ap (λ x. x ++ []) e)).0 in
-      one_number (derivations es) (Begin 0 0 0) chart.once k l (omega (arith, trees_length es, h.0)) (omega (arith, trees_length es, i.0)) same
+      one_place (derivations es) (Begin 0 0 0) chart.once k l (omega (arith, trees_length es, h.0)) (omega (arith, trees_length es, i.0)) same
 
   abbrev found : List ℕ
   found = places (is_whole v (length ws) g.start) 0 es
@@ -96,9 +96,9 @@ module _ (g : Rules) (s : Stored) (items : HasItems g s.shown s.rules s.entries)
   are_all states xs ys is has_keys moved sorted =
       let good = of_edges IsGood ys (moved_all xs ys moved (λ a. IsGood (edge_of a)) (by_edge IsGood xs (subst (AllByRecursion IsGood) (sym is) (all_of IsGood found is_good)))) in
       record {
-        within = weaker IsGood (λ k. suc k ≤ length es) (λ k h. h.0) (map edge_of ys) good;
+        within = all_weaker IsGood (λ k. suc k ≤ length es) (λ k h. h.0) (map edge_of ys) good;
         rises = rises es IsGood told ys (adjacent ys sorted) (moved_all xs ys moved (HasKey es) has_keys) good (λ n. omega (arith, moved_times xs ys moved n, ap (times n) is, places_once (is_whole v (length ws) g.start) n 0 es));
-        each = of_trees es (IsAnalysis (solved g keys.cat) g ws) (map edge_of ys) (weaker IsGood (λ k. IsAnalysis (solved g keys.cat) g ws (tree es k)) (λ k h. h.1) (map edge_of ys) good);
+        each = of_trees es (IsAnalysis (solved g keys.cat) g ws) (map edge_of ys) (all_weaker IsGood (λ k. IsAnalysis (solved g keys.cat) g ws (tree es k)) (λ k h. h.1) (map edge_of ys) good);
         every = λ t h. let k = has_every states t h in
             subst (λ u. IsIn (map (tree es) (map edge_of ys)) u) k.2 (moved_tree es xs ys moved k.0 (subst (λ ns. Contains ns k.0) (sym is) k.1));
       }

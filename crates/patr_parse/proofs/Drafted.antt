@@ -1,8 +1,10 @@
 -- The drafts of a round: they are gathered, and then they stand in the chart.
-use Rattle.std.proofs.Common.{◌≡◌, inl, inr, ℕ, zero, suc, ◌+◌, ◌*◌, ◌<◌, ◌≤◌, List, [], ◌∷◌, ◌++◌, length, take, Option, None, Some, slice_get, slice_index_or, Bool, not, true, false, append_assoc, refl, sym, ap, ◌∙◌, arith, subst}
+use Rattle.std.proofs.Common.{◌≡◌, inl, inr, ℕ, zero, suc, ◌+◌, ◌*◌, ◌<◌, ◌≤◌, List, [], ◌∷◌, ◌++◌, length, take, Option, None, Some, slice_get, slice_index_or, true, append_assoc, refl, sym, ap, ◌∙◌, arith, subst}
 use Rattle.std.specs.Option.{option_map}
 use Rattle.std.proofs.lemmas.List.{length-map, map-append}
 use Rattle.std.proofs.Math.Seq.{take-length}
+use Rattle.patr_lists.proofs.Alls.{all_append}
+use Rattle.patr_lists.proofs.Places.{get_left}
 use Rattle.patr_parse.proofs.Names.{Rules, size, Judgement, HasMoreThan, Each, HasPairs, IsWorked, IsSolvable, some_inj, arc, Feature, Ref, Extends, with_block, sentence_of, Shown, IsShown, ValueIsHeld, value_of, still_held, made_of, kind_passive, Back, Edge, HasOrigin, IsEdgeAfter, derivations, derived, derived_by, Stored, rules_of, Draft, ArePlaced, IsDraft, with_root, AreSound, IsSoundEdge, HasMother, IsRootBy, IsRoundAt, Stands, AreSmall, AreWaiting, IsReady, judge, made_by}
 use Rattle.patr_arena.specs.declared.value.Ref.TheVariants as ref
 use Rattle.patr_arena.specs.Blocks.{AllOldHeld, OldIsHeld, OldRefIsHeld}
@@ -13,9 +15,9 @@ use Rattle.patr_parse.specs.Drafts.{AreDrafts, IsPlaced, StandsFor, TaskGave, ed
 use Rattle.patr_parse.specs.Rounds.{IsCompleted}
 use Rattle.patr_parse.specs.Standing.{IsRound, MayBePushed}
 use Rattle.patr_parse.specs.Tasks.{HasLarge}
-use Rattle.patr_parse.proofs.Growing.{extends_on, extends_same, get_still, ready_still, sound_pushed, sound_still}
+use Rattle.patr_parse.proofs.Growing.{extends_on, extends_same, ready_still, sound_pushed, sound_still}
 use Rattle.patr_parse.proofs.Pushing.{sound_draft}
-use Rattle.patr_parse.proofs.Members.{all_append, among}
+use Rattle.patr_parse.proofs.Members.{among}
 use Rattle.patr_parse.proofs.Paired.{partners_few}
 use Rattle.patr_parse.proofs.Placed.{block_behind, block_moved, home, place, ref_moved}
 use Rattle.patr_parse.proofs.Moved.{arc_moved, moved}
@@ -28,7 +30,7 @@ after_more words es ys e h = record { order = h.order; within = h.within; origin
   where
     go : (o : Option Back) → HasOrigin es e o → HasOrigin (es ++ ys) e o
     go None c = c
-    go (Some b) c = (c.0, c.1, get_still es ys b.active c.0 c.2, get_still es ys b.passive c.1 c.3, c.4)
+    go (Some b) c = (c.0, c.1, get_left es ys b.active c.0 c.2, get_left es ys b.passive c.1 c.3, c.4)
 
 -- the same draft, with more nodes behind
 pub stands_on : (v w u : Shown) (d : Draft) (e : Edge) → Extends w u → StandsFor v w d e → StandsFor v u d e
@@ -111,14 +113,6 @@ module _ (g : Rules) (s : Stored) (v w : Shown) (limit words : ℕ) (es : List E
       waits rest (suc n) e q = rest n e q
 
 -- ---- a round
-
-pub not_false : (b : Bool) → not b ≡ false → b ≡ true
-not_false true q = refl
-not_false false q = cc
-
-pub not_true : (b : Bool) → not b ≡ true → b ≡ false
-not_true true q = cc
-not_true false q = refl
 
 edges_append : (ds zs new : List Draft) → new ≡ ds ++ zs → edges_of new ≡ edges_of ds ++ edges_of zs
 edges_append ds zs new is = ap edges_of is ∙ map-append (λ (d : Draft). d.edge) ds zs

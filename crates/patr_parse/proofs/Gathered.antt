@@ -1,5 +1,5 @@
 -- One more edge is looked at.
-use Rattle.std.proofs.Common.{◌≡◌, ℕ, zero, suc, ◌+◌, ◌<◌, Bool, true, false, cond, List, [], ◌∷◌, ◌++◌, length, map, take, Some, slice_get, refl, sym, ap, ◌∙◌, arith, append-nil}
+use Rattle.std.proofs.Common.{◌≡◌, ℕ, zero, suc, ◌+◌, ◌<◌, Bool, true, false, cond, List, [], ◌∷◌, ◌++◌, length, map, take, Some, slice_get, sym, ap, ◌∙◌, arith, append-nil}
 use Rattle.std.proofs.lemmas.List.{map-append, length-take-le}
 use Rattle.std.proofs.lemmas.Option.{slice_get_within}
 use Rattle.patr_lists.proofs.Tables.{places_append}
@@ -29,7 +29,3 @@ module _ (T : Edge → Bool) (es : List Edge) (n : ℕ) (e : Edge) (at : slice_g
 pub edges_all : (words : ℕ) (es : List Edge) (n : ℕ) → n ≡ length es → (0 < n → AreEdges words es) → AreEdges words es
 edges_all words [] n is h = λ k e at. cc
 edges_all words (x ∷ es) n is h = h (omega (arith, is))
-
-pub take_edges : (es : List Edge) → take (length es) es ≡ es
-take_edges [] = refl
-take_edges (e ∷ es) = ap (λ l. e ∷ l) (take_edges es)

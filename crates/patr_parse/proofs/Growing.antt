@@ -1,7 +1,8 @@
 -- What is promised of edges stays true where more nodes and more edges come.
-use Rattle.std.proofs.Common.{◌≡◌, ◌⊎◌, inl, inr, ℕ, zero, suc, ◌+◌, List, [], ◌∷◌, ◌++◌, length, map, get_or, Option, Some, None, slice_get, refl, sym, ap, ◌∙◌, arith, subst, append-nil, append_assoc}
+use Rattle.std.proofs.Common.{◌≡◌, inl, inr, ℕ, zero, suc, ◌+◌, List, [], ◌∷◌, ◌++◌, length, map, get_or, Option, Some, None, slice_get, refl, sym, ap, ◌∙◌, arith, subst, append-nil, append_assoc}
 use Rattle.std.proofs.lemmas.List.{get_or_append_left, get_or-append-add}
 use Rattle.std.proofs.lemmas.Option.{slice_get_within}
+use Rattle.patr_lists.proofs.Places.{get_left, get_parts}
 use Rattle.patr_parse.proofs.Names.{Value, Node, Structure, arc, IsValue, IsStructure, IsUnifier, Images, Keeps, Rules, Derivation, Begin, IsLeastValue, some_inj, arc_of_longer, Shown, IsShown, ValueIsHeld, value_of, Extends, held_below, still_held, same_number_held, value_below, Counts, EdgeKind, Rule, Back, Edge, derived, derivations, from_length, Stored, Bounds, root_of, IsJoined, HasSource, IsSoundEdge, AreSound, made_by, ItemsAreHeld, IsReady, AreWaiting}
 use Rattle.patr_model.proofs.Longer.{longer_keeps}
 use Rattle.patr_arena.specs.declared.value.Value as its
@@ -115,16 +116,6 @@ extends_on u v w e f = record {
 
 -- ---- more edges
 
-pub get_parts : (es ys : List Edge) (k : ℕ) (e : Edge) → slice_get (es ++ ys) k ≡ Some e → (slice_get es k ≡ Some e) ⊎ ((n : ℕ) × (k ≡ length es + n) × (slice_get ys n ≡ Some e))
-get_parts [] ys k e h = inr (k, omega arith, h)
-get_parts (x ∷ es) ys zero e h = inl h
-get_parts (x ∷ es) ys (suc k) e h = elim (get_parts es ys k e h) as (λ _. (slice_get es k ≡ Some e) ⊎ ((n : ℕ) × (suc k ≡ length (x ∷ es) + n) × (slice_get ys n ≡ Some e))) [ inl q ↦ inl q | inr q ↦ inr (q.0, (let is = q.1 in omega (arith, is)), q.2) ]
-
-pub get_still : (es ys : List Edge) (k : ℕ) (e : Edge) → slice_get es k ≡ Some e → slice_get (es ++ ys) k ≡ Some e
-get_still [] ys k e h = cc
-get_still (x ∷ es) ys zero e h = h
-get_still (x ∷ es) ys (suc k) e h = get_still es ys k e h
-
 made_at : (f : Edge → Derivation) (ys : List Edge) (n : ℕ) (e : Edge) (d : Derivation) → slice_get ys n ≡ Some e → get_or (map f ys) n d ≡ f e
 made_at f [] n e d h = cc
 made_at f (y ∷ ys) zero e d h = ap f (some_inj y e h)
@@ -132,7 +123,7 @@ made_at f (y ∷ ys) (suc n) e d h = made_at f ys n e d h
 
 source_more : (s : Stored) (v : Shown) (es ys : List Edge) (f : Edge) (o : Option Back) → HasSource s v es f o → HasSource s v (es ++ ys) f o
 source_more s v es ys f None c = c
-source_more s v es ys f (Some b) c = (c.0, c.1, get_still es ys b.active c.0 c.2, get_still es ys b.passive c.1 c.3, c.4)
+source_more s v es ys f (Some b) c = (c.0, c.1, get_left es ys b.active c.0 c.2, get_left es ys b.passive c.1 c.3, c.4)
 
 pub sound_more : (g : Rules) (s : Stored) (v : Shown) (es ys : List Edge) (t : Derivation) (f : Edge) → IsSoundEdge g s v es t f → IsSoundEdge g s v (es ++ ys) t f
 sound_more g s v es ys t f h = record { held = h.held; value = h.value; bounds = h.bounds; sized = h.sized; item = h.item; source = source_more s v es ys f f.back h.source }

@@ -3,6 +3,7 @@ use Rattle.std.proofs.Common.{◌≡◌, ℕ, zero, suc, ◌+◌, ◌<◌, Bool,
 use Rattle.std.specs.List.{AllByRecursion, Contains, list_any}
 use Rattle.std.specs.Str.{bytes_eq}
 use Rattle.std.proofs.lemmas.Slice.Eq.{bytes_eq-Decides}
+use Rattle.patr_lists.proofs.Places.{first_contained}
 use Rattle.patr_lists.specs.Numbers.{places}
 use Rattle.patr_parse.proofs.Names.{Id, ids, some_inj, Stored, places_pass, passes_placed, AreKnownTo}
 use Rattle.patr_text.specs.Texts.{holds}
@@ -10,7 +11,6 @@ use Rattle.patr_model.specs.Table.{IsTable}
 use Rattle.patr_lexicon.specs.Entries.{is_of}
 use Rattle.patr_parse.specs.Sentences.{AreNumbers, IsKnown, IsFirstUnknown}
 use Rattle.patr_parse.specs.Words.{IsNumberOf}
-use Rattle.patr_parse.proofs.Members.{first_contained}
 
 -- a text of the table is held
 holds_there : (table : List (List ℕ)) (i : ℕ) (t : List ℕ) → slice_get table i ≡ Some t → holds table t ≡ true
@@ -87,7 +87,3 @@ pub word_at : (ws : List (Bor (List ℕ))) (n : ℕ) (d : Bor (List ℕ)) → n 
 word_at [] n d h = absurd (omega (arith, h))
 word_at (w ∷ ws) zero d h = refl
 word_at (w ∷ ws) (suc n) d h = word_at ws n d (omega (arith, h))
-
-pub take_words : (ws : List (List ℕ)) → take (length ws) ws ≡ ws
-take_words [] = refl
-take_words (w ∷ ws) = ap (λ l. w ∷ l) (take_words ws)

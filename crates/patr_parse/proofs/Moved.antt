@@ -2,13 +2,14 @@
 use Rattle.std.proofs.Common.{◌≡◌, ◌≢◌, inl, inr, ℕ, ◌<◌, ◌≤◌, Bool, true, false, cond, nat_eq, nat_lt, eqb-true, eq-eqb, ltb-true, lt-ltb, List, [], ◌∷◌, ◌++◌, length, length-append, map, Option, Some, None, refl, sym, ap, ◌∙◌, arith, subst}
 use Rattle.std.specs.Option.{option_map}
 use Rattle.std.proofs.lemmas.List.{get_or_append_left, length-map}
+use Rattle.patr_lists.proofs.Members.{map_in, in_map}
+use Rattle.patr_lists.specs.Members.{IsIn}
 use Rattle.patr_parse.proofs.Names.{Value, Atom, Node, Structure, arc, IsReached, IsValue, IsStructure, IsUnifier, Images, Keeps, some_inj, arc_of_longer, arc_value, map_some, NoRepeats, own, total, Counts}
 use Rattle.patr_model.specs.Structure.{at}
 use Rattle.patr_model.specs.Subsumption.{image, IsMap, MapsInto}
 use Rattle.patr_model.specs.Settled.{SideNode, Left, Right, IsSideNode, image_of, arc_of, IsAlone}
 use Rattle.patr_model.proofs.Maps.{carries, after, after_is_map, image_after, maps_transitive, maps_into_longer, maps_into_shorter}
 use Rattle.patr_model.proofs.Steps.{has_place}
-use Rattle.patr_marks.specs.Machine.{IsIn}
 use Rattle.patr_parse.proofs.Longer.{at_same, reached_more, reached_less, reached_value, reached_on}
 
 -- a value whose node stands elsewhere
@@ -43,20 +44,10 @@ arc_moved b U W f h m (Node n) q a = m.arcs n q a
 
 -- ---- lists of numbers
 
-mapped_in : (h : ℕ → ℕ) (ks : List ℕ) (k : ℕ) → IsIn ks k → IsIn (map h ks) (h k)
-mapped_in h (j ∷ ks) k (inl e) = inl (ap h e)
-mapped_in h (j ∷ ks) k (inr i) = inr (mapped_in h ks k i)
-mapped_in h [] k i = absurd i
-
-in_mapped : (h : ℕ → ℕ) (ks : List ℕ) (n : ℕ) → IsIn (map h ks) n → (k : ℕ) × IsIn ks k × (h k ≡ n)
-in_mapped h [] n i = absurd i
-in_mapped h (j ∷ ks) n (inl e) = (j, inl refl, e)
-in_mapped h (j ∷ ks) n (inr i) = let r = in_mapped h ks n i in (r.0, inr r.1, r.2)
-
 once_mapped : (h : ℕ → ℕ) (ks : List ℕ) → ((j k : ℕ) → IsIn ks j → IsIn ks k → h j ≡ h k → j ≡ k) → NoRepeats ks → NoRepeats (map h ks)
 once_mapped h [] one n = tt
 once_mapped h (j ∷ ks) one n = (
-  λ i. (let r = in_mapped h ks (h j) i in n.0 (subst (λ k. IsIn ks k) (one r.0 j (inr r.1) (inl refl) r.2) r.1)),
+  λ i. (let r = map_in h ks (h j) i in n.0 (subst (λ k. IsIn ks k) (one r.0 j (inr r.1) (inl refl) r.2) r.1)),
   once_mapped h ks (λ i k hi hk e. one i k (inr hi) (inr hk) e) n.1,
 )
 
@@ -170,10 +161,10 @@ module _ (b : ℕ) (U W : Structure) (f h : ℕ → ℕ) (m : IsMoved b U W f h)
         list = map h c.list;
         is = record {
           once = once_mapped h c.list (λ j k hj hk e. sym (home j hj).2 ∙ (ap f e ∙ (home k hk).2)) c.is.once;
-          reached = λ n i. let r = in_mapped h c.list n i in subst (λ j. IsReached U x j) r.2 (home r.0 r.1).0;
+          reached = λ n i. let r = map_in h c.list n i in subst (λ j. IsReached U x j) r.2 (home r.0 r.1).0;
           all = λ n r.
               let in_u = reached_value_of x q n r in
-              subst (λ j. IsIn (map h c.list) j) (m.there n in_u).1 (mapped_in h c.list (f n) (c.is.all (f n) (r.0, at_moved x (Node n) r.0 q r.1 in_u)));
+              subst (λ j. IsIn (map h c.list) j) (m.there n in_u).1 (in_map h c.list (f n) (c.is.all (f n) (r.0, at_moved x (Node n) r.0 q r.1 in_u)));
         };
         nodes_are = length-map c.list h ∙ c.nodes_are;
         arcs_are = total_mapped h (λ k. length (own U k)) (λ k. length (own W k)) c.list (λ k i.

@@ -25,7 +25,7 @@ pub use Rattle.patr_chart.specs.declared.edge.EdgeKind.TheVariants.{Rule}
 pub use Rattle.patr_library.specs.Stored.{Bounds, IsRuleItem, IsStored, Stored, is_of_word, keys, root_of, rules_of}
 pub use Rattle.patr_library.specs.declared.item.EntryItem.{EntryItem}
 pub use Rattle.patr_library.specs.declared.item.RuleItem.{RuleItem}
-pub use Rattle.patr_marks.specs.Machine.{NoRepeats, own, total}
+pub use Rattle.patr_marks.specs.Machine.{own}
 pub use Rattle.patr_model.proofs.Maps.{and_then_some, arc_of_longer, some_inj}
 pub use Rattle.patr_model.proofs.Rounds.{rounds}
 pub use Rattle.patr_model.proofs.Steps.{arc_value}
@@ -47,7 +47,7 @@ pub use Rattle.patr_parse.specs.Joining.{HasMother, IsRootBy}
 pub use Rattle.patr_parse.specs.Predicting.{ArePredicted, IsMarked}
 pub use Rattle.patr_parse.specs.Rounds.{IsRoundAt}
 pub use Rattle.patr_parse.specs.Standing.{Stands}
-pub use Rattle.patr_parse.specs.Tasks.{ArePartners, AreSmall, AreWaiting, Has, IsReady, ItemsAreHeld, judge, made_by, pair}
+pub use Rattle.patr_parse.specs.Tasks.{ArePartners, AreSmall, AreWaiting, IsReady, ItemsAreHeld, judge, made_by, pair}
 pub use Rattle.patr_parse.specs.Words.{AreKnownTo}
 pub use Rattle.patr_parse.specs.declared.analyses.Analysis.{Analysis}
 pub use Rattle.patr_parse.specs.declared.draft.Draft.{Draft}

@@ -80,25 +80,6 @@ in_taken (suc k) [] d t h = absurd h
 in_taken (suc k) (u ∷ ts) d t (inl e) = record { at = zero; before = omega arith; within = omega arith; is = e }
 in_taken (suc k) (u ∷ ts) d t (inr h) = let r = in_taken k ts d t h in record { at = suc r.at; before = omega (arith, r.before); within = omega (arith, r.within); is = r.is }
 
-pub taken_in : (k : ℕ) (ts : List Derivation) (d : Derivation) (j : ℕ) → j < k → j < length ts → IsIn (take k ts) (get_or ts j d)
-taken_in zero ts d j h l = absurd (omega (arith, h))
-taken_in (suc k) [] d j h l = absurd (omega (arith, l))
-taken_in (suc k) (u ∷ ts) d zero h l = inl refl
-taken_in (suc k) (u ∷ ts) d (suc j) h l = inr (taken_in k ts d j (omega (arith, h)) (omega (arith, l)))
-
-pub at_in : (ts : List Derivation) (d : Derivation) (j : ℕ) → j < length ts → IsIn ts (get_or ts j d)
-at_in [] d j h = absurd (omega (arith, h))
-at_in (u ∷ ts) d zero h = inl refl
-at_in (u ∷ ts) d (suc j) h = inr (at_in ts d j (omega (arith, h)))
-
--- a list without repeats has each member at one number
-pub one_number : (ts : List Derivation) (d : Derivation) → NoRepeats ts → (i j : ℕ) → i < length ts → j < length ts → get_or ts i d ≡ get_or ts j d → i ≡ j
-one_number [] d o i j h k e = absurd (omega (arith, h))
-one_number (t ∷ ts) d o zero zero h k e = refl
-one_number (t ∷ ts) d o zero (suc j) h k e = absurd (o.0 (subst (λ u. IsIn ts u) (sym e) (at_in ts d j (omega (arith, k)))))
-one_number (t ∷ ts) d o (suc i) zero h k e = absurd (o.0 (subst (λ u. IsIn ts u) e (at_in ts d i (omega (arith, h)))))
-one_number (t ∷ ts) d o (suc i) (suc j) h k e = ap (λ n. suc n) (one_number ts d o.1 i j (omega (arith, h)) (omega (arith, k)) e)
-
 pub has_taken : (xs : List ℕ) (i j : ℕ) → Has (take i xs) j → Has xs j
 has_taken xs zero j h = absurd h
 has_taken [] (suc i) j h = h

@@ -2,6 +2,7 @@
 use Rattle.std.proofs.Common.{◌≡◌, inl, inr, ℕ, suc, ◌+◌, ◌<◌, ◌≤◌, Bool, List, [], ◌∷◌, ◌++◌, length, take, map, Option, Some, None, slice_get, refl, sym, ap, arith, subst, length-append}
 use Rattle.std.proofs.lemmas.List.{length-map, length-take, take_more}
 use Rattle.std.proofs.lemmas.Option.{slice_get_within}
+use Rattle.patr_lists.proofs.Members.{one_place}
 use Rattle.patr_lists.proofs.Tables.{places_length}
 use Rattle.patr_lists.specs.Members.{NoRepeats, IsIn}
 use Rattle.patr_parse.proofs.Names.{Rules, Derivation, Begin, HasPairs, Shown, Edge, is_passive, AreEdges, partners, derivations, KindsFit, Draft, AreMade, pair, Has}
@@ -9,7 +10,7 @@ use Rattle.patr_model.specs.Rounds.{ArePairs, ArePairsOf}
 use Rattle.patr_model.proofs.Rounds.{counted}
 use Rattle.patr_chart.specs.Charted.{is_partner, partners_of, tree}
 use Rattle.patr_parse.specs.Drafts.{TaskGave}
-use Rattle.patr_parse.proofs.Numbers.{in_map, in_taken, map_in, once_map, one_number}
+use Rattle.patr_parse.proofs.Numbers.{in_map, in_taken, map_in, once_map}
 use Rattle.patr_parse.proofs.Tasks.{trees_length, pair_differs, is_partner_of, rising_partners, of_pair, has_pair, task_done}
 
 -- an edge has no more partners than there are edges
@@ -40,7 +41,7 @@ module _ (g : Rules) (words : ℕ) (es : List Edge) (all : AreEdges words es) (f
       let here : k < length D = omega (arith, slice_get_within es k e at, trees_length es) in
       let fresh : IsIn (take k D) (tree es k) → ⊥ = λ i.
       let x = in_taken k D (Begin 0 0 0) (tree es k) i in
-      let same = one_number D (Begin 0 0 0) once x.at k x.within here x.is in omega (arith, same, x.before) in
+      let same = one_place D (Begin 0 0 0) once x.at k x.within here x.is in omega (arith, same, x.before) in
       let pairs = (counted g).works (take k D) (tree es k) h.0 qs h.1 fresh (task_pairs b refl) in (
         h.0 ++ qs,
         subst (λ l. ArePairs g l (h.0 ++ qs)) (sym (take_more D k (Begin 0 0 0) here)) pairs,

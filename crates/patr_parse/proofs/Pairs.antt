@@ -1,16 +1,16 @@
 -- Sizes and pairs of edges that are there.
 use Rattle.std.proofs.Common.{◌≡◌, ℕ, Bool, true, false, cond, List, Some, slice_get, refl, sym, ap, ◌∙◌, arith}
 use Rattle.std.proofs.lemmas.Option.{slice_get_within}
+use Rattle.patr_lists.proofs.Members.{in_at}
 use Rattle.patr_lists.specs.Members.{IsIn}
 use Rattle.patr_parse.proofs.Names.{Rules, Begin, Extend, Edge, AreEdges, derivations, KindsFit, ArePartners, pair}
 use Rattle.patr_model.specs.Rounds.{IsPair}
 use Rattle.patr_chart.specs.Charted.{tree}
 use Rattle.patr_chart.proofs.Shown.{pairs_are}
-use Rattle.patr_parse.proofs.Numbers.{at_in}
 use Rattle.patr_parse.proofs.Tasks.{trees_length}
 
 pub tree_in : (es : List Edge) (k : ℕ) (e : Edge) → slice_get es k ≡ Some e → IsIn (derivations es) (tree es k)
-tree_in es k e at = at_in (derivations es) (Begin 0 0 0) k (omega (arith, slice_get_within es k e at, trees_length es))
+tree_in es k e at = in_at (derivations es) (Begin 0 0 0) k (omega (arith, slice_get_within es k e at, trees_length es))
 
 -- two edges that may be decided are a pair of the chart
 pub is_pair : (g : Rules) (words : ℕ) (es : List Edge) → AreEdges words es → KindsFit g es → (b : Bool) (k j : ℕ) → ArePartners es (cond b j k) (cond b k j) → IsPair g (derivations es) (pair b es k j)

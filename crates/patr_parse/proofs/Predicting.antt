@@ -3,7 +3,7 @@ use Rattle.std.proofs.Common.{◌≡◌, ◌⊎◌, inl, inr, ℕ, zero, suc, �
 use Rattle.std.proofs.lemmas.List.{get_or_append_left}
 use Rattle.std.proofs.lemmas.Option.{slice_get_within}
 use Rattle.patr_lists.specs.Members.{IsIn}
-use Rattle.patr_lists.proofs.Members.{in_cases, in_left, in_right}
+use Rattle.patr_lists.proofs.Members.{in_cases, in_left, in_right, place_of, in_at}
 use Rattle.patr_parse.proofs.Names.{Value, Atom, Node, Structure, Rules, Derivation, Leaf, Begin, Extend, end, IsSolvable, IsLeastValue, InChart, Each, IsNoPair, some_inj, and_then_some, Shown, value_of, Edge, derivations, from_length, RuleItem, EntryItem, Stored, IsStored, rules_of, keys, is_of_word, Mark, AreSound, judge, made_by, Stands, begun_at, begun_by, next_of, HasMark, HasMarkOf, IsAloneEdge, ArePredicted, IsMarked}
 use Rattle.patr_model.specs.Structure.{at}
 use Rattle.patr_model.specs.Category.{atom_of}
@@ -22,8 +22,6 @@ use Rattle.patr_lexicon.specs.declared.lexicon.Entry.{Entry}
 use Rattle.patr_lexicon.specs.Seen.{entry_seen}
 use Rattle.patr_library.specs.Stored.{grammar_of, entries_of, number, word_at, is_number}
 use Rattle.patr_parse.specs.Begun.{begun_unless, is_marked}
-use Rattle.patr_parse.proofs.Members.{place_of}
-use Rattle.patr_parse.proofs.Numbers.{at_in}
 use Rattle.patr_parse.proofs.Added.{AreNew, none_new, derivations_new}
 use Rattle.patr_parse.proofs.Items.{rule_item, begun_least, begun_solvable, IsBegun, in_begun, begun_in, once_begun, no_pair_begun}
 
@@ -285,7 +283,7 @@ module _ (s : Stored) (stored : IsStored s) where
     t = tree es seen
 
     t_in : InChart (judge s) (rules_of s) ws (tree es seen)
-    t_in = stands.worked.edges (tree es seen) (in_left (derivations es) [] (tree es seen) (at_in (derivations es) (Begin 0 0 0) seen (omega (arith, here, from_length [] es))))
+    t_in = stands.worked.edges (tree es seen) (in_left (derivations es) [] (tree es seen) (in_at (derivations es) (Begin 0 0 0) seen (omega (arith, here, from_length [] es))))
 
     -- a rule whose mother is the next category
     licensed : (c : ℕ) → next_of (rules_of s) (tree es seen) ≡ Some c → (u : Derivation) → IsBegun s stored c (end (tree es seen)) u → InChart (judge s) (rules_of s) ws u

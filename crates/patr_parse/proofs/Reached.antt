@@ -1,21 +1,13 @@
 -- What a value reaches is a list of nodes: so it can be counted.
 use Rattle.std.proofs.Common.{◌≡◌, ◌⊎◌, inl, inr, ℕ, zero, suc, ◌<◌, Bool, true, false, cond, nat_eq, eqb-true, List, [], ◌∷◌, length, Option, Some, None, option_and_then, slice_get, refl, sym, ap, ◌∙◌, arith, subst}
 use Rattle.std.proofs.lemmas.Bool.{eqb-false}
+use Rattle.patr_lists.proofs.Members.{in_or_not}
+use Rattle.patr_lists.specs.Members.{IsIn}
 use Rattle.patr_parse.proofs.Names.{Value, Atom, Node, Structure, arc, IsReached, IsValue, IsStructure, some_inj, and_then_some, NoRepeats, own, total, Counts}
 use Rattle.patr_model.specs.Structure.{Arc, Arcs, along, HasDistinct, arcs_of, at, IsBelow}
-use Rattle.patr_marks.specs.Machine.{IsIn}
 use Rattle.patr_unify.specs.Deciding.{IsReachOf}
 
 -- ---- lists of numbers
-
-in_or_not : (xs : List ℕ) (k : ℕ) → IsIn xs k ⊎ (IsIn xs k → ⊥)
-in_or_not [] k = inr (λ h. h)
-in_or_not (x ∷ xs) k = go (nat_eq x k) refl (in_or_not xs k)
-  where
-    go : (b : Bool) → nat_eq x k ≡ b → IsIn xs k ⊎ (IsIn xs k → ⊥) → IsIn (x ∷ xs) k ⊎ (IsIn (x ∷ xs) k → ⊥)
-    go true q r = inl (inl (eqb-true x k q))
-    go false q (inl h) = inl (inr h)
-    go false q (inr n) = inr (λ h. elim h [ inl e ↦ eqb-false x k q e | inr i ↦ n i ])
 
 -- a list that has the members of both, each once
 record Union (xs ys : List ℕ) : Type 0 where

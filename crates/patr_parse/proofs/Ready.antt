@@ -1,8 +1,9 @@
 -- What a round needs is there: before it, and after more edges were predicted.
 use Rattle.std.proofs.Common.{◌≡◌, inl, inr, ℕ, ◌+◌, ◌<◌, ◌≤◌, List, [], ◌∷◌, ◌++◌, length, length-append, append_assoc, take, true, false, refl, sym, ap, ◌∙◌, arith, subst}
 use Rattle.std.proofs.lemmas.List.{take-append-le}
+use Rattle.patr_lists.proofs.Places.{get_there}
 use Rattle.patr_lists.specs.Members.{IsIn}
-use Rattle.patr_lists.proofs.Members.{in_cases, in_left}
+use Rattle.patr_lists.proofs.Members.{in_cases, in_left, once_left}
 use Rattle.patr_parse.proofs.Names.{Rules, Derivation, Leaf, Begin, Extend, end, size, Judgement, HasMoreThan, Each, Shown, Extends, still_held, Edge, EdgeKind, Rule, derivations, Stored, IsStored, rules_of, AreSound, AreSmall, IsReady, ItemsAreHeld, judge, Stands, begun_by, next_of, ArePushed, HasMarkOf, IsAloneEdge, ArePredicted, IsMarked}
 use Rattle.patr_chart.specs.declared.edge.EdgeKind.TheVariants.{Entry}
 use Rattle.patr_chart.specs.Charted.{alone, tree}
@@ -10,10 +11,8 @@ use Rattle.patr_parse.specs.declared.prediction.Prediction.{Prediction}
 use Rattle.patr_parse.specs.Standing.{IsGrown}
 use Rattle.patr_parse.specs.Predicting.{IsFurther, IsPrediction}
 use Rattle.patr_parse.proofs.Tasks.{trees_length}
-use Rattle.patr_parse.proofs.Standing.{once_left}
 use Rattle.patr_parse.proofs.Added.{AreNew, derivations_new, passes_new, sound_new, stands_new, each_is, alones, alone_edge}
 use Rattle.patr_parse.proofs.Items.{rule_item}
-use Rattle.patr_parse.proofs.Members.{element_at}
 use Rattle.patr_parse.proofs.Predicting.{followed_new, followed_predicted, no_pair_followed, predicted_grown}
 
 in_long : (ts : List Derivation) (t : Derivation) → IsIn ts t → 0 < length ts
@@ -81,7 +80,7 @@ module _ (s : Stored) (stored : IsStored s) (ws : List ℕ) (v : Shown) (limit :
   ts = begun_by p.marks.keys s (next_of r t) (end t)
 
   fresh : (n : ℕ) → Stands (judge s) r ws es n [] → AreNew (judge s) r ws es ts
-  fresh n now = let at = element_at es p.seen here in followed_new s stored ws v es i.ready.sound n now p.marks.keys p.seen i.predicted at.0 at.1
+  fresh n now = let at = get_there es p.seen here in followed_new s stored ws v es i.ready.sound n now p.marks.keys p.seen i.predicted at.0 at.1
 
   pub not_further : ArePushed r s v limit es ts new false → HasMoreThan (judge s) r ws limit
   not_further full =
@@ -93,7 +92,7 @@ module _ (s : Stored) (stored : IsStored s) (ws : List ℕ) (v : Shown) (limit :
       let ys = pushed.0 in
       let each = pushed.2 in
       let back : es ++ ys ≡ new = sym pushed.1 in
-      let at = element_at es p.seen here in
+      let at = get_there es p.seen here in
       let now = i.stands k first in
       let stands : (n : ℕ) → Stands (judge s) r ws old n [] → Stands (judge s) r ws (es ++ ys) n [] = λ n f. let now = i.stands n f in stands_new r s v es ys ts each (judge s) ws n now (fresh n now) in
       let few : length (es ++ ys) ≤ limit = subst (λ l. length l ≤ limit) pushed.1 pushed.3 in

@@ -3,8 +3,9 @@ use Rattle.std.proofs.Common.{◌≡◌, inl, inr, ℕ, zero, suc, ◌+◌, ◌<
 use Rattle.std.proofs.lemmas.List.{map-append, length-map, take_more, take-append-le, get_or_append_left}
 use Rattle.std.proofs.Math.Seq.{take-length}
 use Rattle.std.proofs.lemmas.Option.{slice_get_within}
-use Rattle.patr_lists.proofs.Members.{in_cases, in_left}
-use Rattle.patr_lists.specs.Members.{NoRepeats, IsIn}
+use Rattle.patr_lists.proofs.Places.{get_parts}
+use Rattle.patr_lists.proofs.Members.{in_cases, in_left, one_place, in_at, once_left}
+use Rattle.patr_lists.specs.Members.{IsIn}
 use Rattle.patr_parse.proofs.Names.{Rules, Derivation, Begin, Extend, Judgement, InChart, IsChart, HasMoreThan, some_inj, IsWorked, rounds, EdgeKind, Rule, Back, Edge, HasOrigin, IsEdgeAfter, derived_by, derived, derivations, KindsFit, made_by, AreSmall, Stands}
 use Rattle.patr_model.specs.Rounds.{IsPredicted, IsYield}
 use Rattle.patr_chart.specs.declared.edge.EdgeKind.TheVariants.{Entry}
@@ -12,13 +13,8 @@ use Rattle.patr_chart.specs.Charted.{alone, derivation_at, derivations_from, tre
 use Rattle.patr_chart.proofs.Trees.{from_append}
 use Rattle.patr_parse.specs.Tasks.{by_edges, HasLarge}
 use Rattle.patr_parse.specs.Standing.{MayBePushed, IsMadeOfTwo, IsRound}
-use Rattle.patr_parse.proofs.Numbers.{at_in, in_taken, one_number}
+use Rattle.patr_parse.proofs.Numbers.{in_taken}
 use Rattle.patr_parse.proofs.Tasks.{trees_length}
-use Rattle.patr_parse.proofs.Growing.{get_parts}
-
-pub once_left : (ts us : List Derivation) → NoRepeats (ts ++ us) → NoRepeats ts
-once_left [] us o = tt
-once_left (t ∷ ts) us o = ((λ h. o.0 (in_left ts us t h)), once_left ts us o.1)
 
 -- what an edge stands for doesn't depend on later ones
 derived_more : (words : ℕ) (es : List Edge) (more : List Derivation) (e : Edge) → IsEdgeAfter words es e → derived (derivations es ++ more) e ≡ derived (derivations es) e
@@ -89,9 +85,9 @@ module _ (j : Judgement) (g : Rules) (ws : List ℕ) where
       let x = tree es k in
       let fresh : IsIn (take k D) x → ⊥ = λ i.
       let at = in_taken k D (Begin 0 0 0) x i in
-      let same = one_number D (Begin 0 0 0) (once_left D (made_by es ys) s.worked.once) at.at k at.within here at.is in let before = at.before in omega (arith, same, before) in
+      let same = one_place D (Begin 0 0 0) (once_left D (made_by es ys) s.worked.once) at.at k at.within here at.is in let before = at.before in omega (arith, same, before) in
       let yields : IsYield j g (take k D) x (made_by es zs) = record { once = t.once; pairs = t.pairs; every = t.every } in
-      let w = (rounds j g ws).works (take k D) (D ++ made_by es ys) x (made_by es zs) s.worked (in_left D (made_by es ys) x (at_in D (Begin 0 0 0) k here)) fresh yields in
+      let w = (rounds j g ws).works (take k D) (D ++ made_by es ys) x (made_by es zs) s.worked (in_left D (made_by es ys) x (in_at D (Begin 0 0 0) k here)) fresh yields in
       record {
         worked = subst (λ l. IsWorked j g ws l (D ++ made_by es (ys ++ zs))) (sym (take_more D k (Begin 0 0 0) here))
             (subst (λ l. IsWorked j g ws (take k D ++ x ∷ []) l)

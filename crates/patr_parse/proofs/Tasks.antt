@@ -2,7 +2,9 @@
 use Rattle.std.proofs.Common.{◌≡◌, inl, inr, ℕ, zero, suc, ◌<◌, Bool, true, false, cond, List, [], ◌∷◌, ◌++◌, length, take, get_or, Some, slice_get, refl, sym, ap, ◌∙◌, arith, subst, append_assoc}
 use Rattle.std.proofs.lemmas.List.{map-append}
 use Rattle.std.proofs.lemmas.Option.{slice_get_within}
-use Rattle.patr_lists.proofs.Members.{in_cases, in_left, in_right, in_one, once_append}
+use Rattle.patr_lists.proofs.Alls.{all_more}
+use Rattle.patr_lists.proofs.Places.{get_there}
+use Rattle.patr_lists.proofs.Members.{in_cases, in_left, in_right, in_one, once_append, one_place, in_front}
 use Rattle.patr_lists.specs.Members.{NoRepeats, IsIn}
 use Rattle.patr_parse.proofs.Names.{Rules, Derivation, Begin, Extend, IsSolvable, Shown, Edge, is_passive, AreEdges, partners, derived, derivations, KindsFit, from_length, ArePartners, pair, Has, made_by, Draft, AreMade, IsDraft}
 use Rattle.patr_model.specs.Rounds.{IsAdjacent, IsPairOf, IsYield}
@@ -12,8 +14,7 @@ use Rattle.patr_chart.proofs.Partners.{has_partners}
 use Rattle.patr_chart.proofs.Shown.{pairs_are}
 use Rattle.patr_parse.specs.Tasks.{by_edges}
 use Rattle.patr_parse.specs.Drafts.{AreDrafts, IsDecided, edges_of}
-use Rattle.patr_parse.proofs.Members.{all_more, element_at}
-use Rattle.patr_parse.proofs.Numbers.{Rising, rising_of, has_contains, contains_has, has_last, has_left, has_either, in_taken, taken_in, one_number}
+use Rattle.patr_parse.proofs.Numbers.{Rising, rising_of, has_contains, contains_has, has_last, has_left, has_either, in_taken}
 
 pub trees_length : (es : List Edge) → length (derivations es) ≡ length es
 trees_length es = omega (arith, from_length [] es)
@@ -22,10 +23,10 @@ trees_length es = omega (arith, from_length [] es)
 pub pair_differs : (es : List Edge) → NoRepeats (derivations es) → (b : Bool) (k i j : ℕ) → i < length es → j < length es → pair b es k i ≡ pair b es k j → i ≡ j
 pair_differs es once true k i j h l e =
     let same : tree es i ≡ tree es j = cc in
-    one_number (derivations es) (Begin 0 0 0) once i j (omega (arith, h, trees_length es)) (omega (arith, l, trees_length es)) same
+    one_place (derivations es) (Begin 0 0 0) once i j (omega (arith, h, trees_length es)) (omega (arith, l, trees_length es)) same
 pair_differs es once false k i j h l e =
     let same : tree es i ≡ tree es j = cc in
-    one_number (derivations es) (Begin 0 0 0) once i j (omega (arith, h, trees_length es)) (omega (arith, l, trees_length es)) same
+    one_place (derivations es) (Begin 0 0 0) once i j (omega (arith, h, trees_length es)) (omega (arith, l, trees_length es)) same
 
 module _ (g : Rules) (v : Shown) (words : ℕ) (es : List Edge) (limit : ℕ) (b : Bool) (k : ℕ) where
   pub made_nothing : AreMade g v words es limit b k [] []
@@ -94,7 +95,7 @@ item_at xs ys same k d h = there ys k d h ∙ ap (λ l. Some (get_or l k d)) (sy
 
 module _ (g : Rules) (words : ℕ) (es : List Edge) (all : AreEdges words es) (fit : KindsFit g es) (k : ℕ) (e : Edge) (at : slice_get es k ≡ Some e) where
   in_before : (j : ℕ) → j < k → IsIn (take k (derivations es)) (tree es j)
-  in_before j h = taken_in k (derivations es) (Begin 0 0 0) j h (omega (arith, h, slice_get_within es k e at, trees_length es))
+  in_before j h = in_front k (derivations es) (Begin 0 0 0) j h (omega (arith, h, slice_get_within es k e at, trees_length es))
 
   pair_false : (b : Bool) → b ≡ false → (j : ℕ) → pair b es k j ≡ Extend (tree es k) (tree es j)
   pair_false true h j = cc
@@ -115,7 +116,7 @@ module _ (g : Rules) (words : ℕ) (es : List Edge) (all : AreEdges words es) (f
   earlier : (u : Derivation) → IsIn (take k (derivations es)) u → (j : ℕ) × (j < k) × (tree es j ≡ u) × (f : Edge) × (slice_get es j ≡ Some f)
   earlier u h =
       let i = in_taken k (derivations es) (Begin 0 0 0) u h in
-      let f = element_at es i.at (let within = i.within in omega (arith, within, trees_length es)) in
+      let f = get_there es i.at (let within = i.within in omega (arith, within, trees_length es)) in
       (i.at, i.before, i.is, f.0, f.1)
 
   -- edge k is active

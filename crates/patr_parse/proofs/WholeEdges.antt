@@ -1,6 +1,9 @@
 -- The passive edges of the start symbol over all the words are the analyses.
 use Rattle.std.proofs.Common.{◌≡◌, ℕ, zero, suc, Bool, true, false, cond, ◌&&◌, nat_eq, eqb-true, eq-eqb, List, [], ◌∷◌, length, take, Option, Some, None, option_and_then, slice_get, refl, sym, ap, ◌∙◌, arith, subst}
 use Rattle.std.proofs.lemmas.Option.{slice_get_within}
+use Rattle.patr_lists.proofs.Alls.{all_get}
+use Rattle.patr_lists.proofs.Places.{get_there}
+use Rattle.patr_lists.proofs.Members.{place_of}
 use Rattle.patr_parse.proofs.Names.{Value, Atom, Node, Structure, Rules, Derivation, Begin, InChart, IsChart, IsSolvable, IsLeastValue, variant_steps, Shown, value_of, EdgeKind, Rule, Edge, is_passive, HasOrigin, AreEdges, derivations, KindsFit, from_length, is_judged, RuleItem, Stored, IsRuleItem, keys, root_of, AreSound, is_whole}
 use Rattle.patr_model.specs.Structure as structure
 use Rattle.patr_model.specs.Category.{atom_of, atom_at}
@@ -18,7 +21,7 @@ use Rattle.patr_library.specs.Stored.{HasItems}
 use Rattle.patr_parse.specs.Found.{IsOfItem}
 use Rattle.patr_parse.specs.Analyses.{is_atom, has_category}
 use Rattle.patr_parse.proofs.Tasks.{trees_length}
-use Rattle.patr_parse.proofs.Members.{all_get, all_there, element_at, place_of}
+use Rattle.patr_parse.proofs.Members.{all_there}
 
 both : (b c : Bool) → b && c ≡ true → (b ≡ true) × (c ≡ true)
 both true c h = (refl, h)
@@ -95,7 +98,7 @@ module _ (g : Rules) (s : Stored) (items : HasItems g s.shown s.rules s.entries)
       pub edge_of_tree : (t : Derivation) → InChart (solved g cat) g ws t → (k : ℕ) × (e : Edge) × (slice_get es k ≡ Some e) × (tree es k ≡ t)
       edge_of_tree t h =
           let p = place_of (derivations es) (Begin 0 0 0) t (chart.every t h) in
-          let e = element_at es p.0 (omega (arith, trees_length es, p.1)) in
+          let e = get_there es p.0 (omega (arith, trees_length es, p.1)) in
           (p.0, e.0, e.1, p.2)
 
       pub have_least : HaveLeastValues g cat ws

@@ -25,7 +25,7 @@ use Rattle.patr_parse.specs.declared.work.Outcome.{Outcome}
 use Rattle.patr_parse.specs.declared.work.Outcome.TheVariants as outcome
 use Rattle.patr_parse.specs.Found.{daughters}
 use Rattle.patr_parse.specs.Joining.{HasMother, IsRootBy}
-use Rattle.patr_parse.specs.Tasks.{Has, by_edges, made_by, pair}
+use Rattle.patr_parse.specs.Tasks.{by_edges, made_by, pair}
 
 -- the edges of drafts
 abbrev pub edges_of : List Draft → List Edge
@@ -70,8 +70,8 @@ IsDecided g v words es limit t old new false = HasCombined g v words es limit t 
 pub record AreMade (g : Rules) (v : Shown) (words : ℕ) (es : List Edge) (limit : ℕ) (b : Bool) (k : ℕ) (js : List ℕ) (ds : List Draft) : Type 0 where
   pub once : NoRepeats (made_by es (edges_of ds))
   pub drafts : AreDrafts v words es limit ds
-  pub pairs : (t : Derivation) → IsIn (made_by es (edges_of ds)) t → (j : ℕ) × Has js j × (t ≡ pair b es k j) × IsSolvable g t
-  pub every : (j : ℕ) → Has js j → IsSolvable g (pair b es k j) → IsIn (made_by es (edges_of ds)) (pair b es k j)
+  pub pairs : (t : Derivation) → IsIn (made_by es (edges_of ds)) t → (j : ℕ) × IsIn js j × (t ≡ pair b es k j) × IsSolvable g t
+  pub every : (j : ℕ) → IsIn js j → IsSolvable g (pair b es k j) → IsIn (made_by es (edges_of ds)) (pair b es k j)
 
 -- whether an edge has too many nodes
 abbrev pub is_stop : {A : Type 0} → Outcome A → Bool

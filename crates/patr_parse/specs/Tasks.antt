@@ -1,5 +1,5 @@
 -- What a task decides: the pairs of an edge with its partners.
-use Rattle.std.specs.Prelude.{◌≡◌, ◌⊎◌, ℕ, ◌<◌, ◌≤◌, Bool, cond, List, [], ◌∷◌, ◌++◌, take, map, Some, slice_get}
+use Rattle.std.specs.Prelude.{◌≡◌, ℕ, ◌<◌, ◌≤◌, Bool, cond, List, ◌++◌, take, map, Some, slice_get}
 use Rattle.patr_lists.specs.Members.{IsIn, NoRepeats}
 use Rattle.patr_model.specs.Derivation.{Rules, Derivation, Extend, size}
 use Rattle.patr_model.specs.Chart.{Judgement}
@@ -26,11 +26,6 @@ ArePartners es a p = (x : Edge) × (y : Edge) × (slice_get es a ≡ Some x) × 
 -- edge k with edge j, where edge k is passive or not
 abbrev pub pair : Bool → List Edge → ℕ → ℕ → Derivation
 pair passive es k j = cond passive (Extend (tree es j) (tree es k)) (Extend (tree es k) (tree es j))
-
--- the number is one of the list
-abbrev pub Has : List ℕ → ℕ → Type 0
-Has [] j = ⊥
-Has (x ∷ xs) j = (x ≡ j) ⊎ Has xs j
 
 -- the derivations of edges that were made, by the edges of the chart
 abbrev pub made_by : List Edge → List Edge → List Derivation

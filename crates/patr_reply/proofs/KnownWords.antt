@@ -20,7 +20,6 @@ use Rattle.patr_lexicon.specs.declared.lexicon.Entry.{Entry}
 use Rattle.patr_lexicon.specs.Seen.{entry_seen}
 use Rattle.patr_library.specs.Stored.{Stored, keys, number, entries_of, rules_of}
 use Rattle.patr_parse.specs.Found.{Found}
-use Rattle.patr_parse.proofs.Members.{element_at}
 use Rattle.patr_parse.specs.Sentences.{AreNumbers, IsKnown, IsParsed, IsFirstUnknown}
 use Rattle.patr_reply.specs.Held.{AreHeldBy}
 use Rattle.patr_reply.specs.Lines.{grounds, state_of}
@@ -68,7 +67,7 @@ module _ (s : Stored) (table : List (List ℕ)) (names : Numbering) (agrees : Ag
     known_back : (w : List ℕ) → session.IsKnown (grounds names s) w → IsKnown s table w
     known_back w h =
         let x = entry_from s h.0 h.1 h.2 h.3 in
-        let t = element_at table x.0.word.0 (entry_below (length table) s held h.0 x.0 x.1).1 in
+        let t = get_there table x.0.word.0 (entry_below (length table) s held h.0 x.0 x.1).1 in
         let number_is : names.number t.0 ≡ names.number w = agrees x.0.word.0 t.0 t.1 ∙ (sym x.2.1 ∙ h.4) in
         let same : t.0 ≡ w = sym (names.back t.0) ∙ (ap names.text number_is ∙ names.back w) in
         (h.0, x.0, x.1, t.1 ∙ ap (λ u. Some u) same)

@@ -2,6 +2,7 @@
 use Rattle.std.proofs.Common.{◌≡◌, ℕ, suc, ◌+◌, ◌<◌, Bool, true, false, List, [], ◌∷◌, ◌++◌, length, map, take, get_or, slice_get, codes, decimal, refl, sym, ap, ◌∙◌, subst, arith, append_assoc, append-nil, ltb-true}
 use Rattle.std.specs.List.{AllByRecursion}
 use Rattle.std.proofs.lemmas.List.{length-map, length-take-le, take_more}
+use Rattle.patr_lists.proofs.Places.{get_there}
 use Rattle.patr_model.specs.Derivation.{Rules}
 use Rattle.patr_model.specs.Text.{Look, canonical}
 use Rattle.patr_model.specs.Table.{table_text, table_look, text_or, total, zeros}
@@ -15,7 +16,6 @@ use Rattle.patr_chart.specs.Charted.{derivations, tree}
 use Rattle.patr_chart.proofs.Trees.{from_length}
 use Rattle.patr_library.specs.Stored.{Stored, keys, rules_of}
 use Rattle.patr_parse.specs.Found.{Found, AreSound, IsSound}
-use Rattle.patr_parse.proofs.Members.{element_at}
 use Rattle.patr_reply.specs.Held.{AreHeldBy}
 use Rattle.patr_reply.specs.Lines.{grounds, look_by, state_of, tree_line, value_line, analysis_text, analysis_lines, listing, count_line}
 use Rattle.patr_reply.specs.Sources.{edge_value, value_at, IsReady}
@@ -52,7 +52,7 @@ module _ (l m : Look) (g : Rules) (v : Shown) (es : List Edge) (features : Bool)
 
 texts_by : (names : Numbering) (table : List (List ℕ)) → AgreesWith names table → (c : ℕ) → below (length table) c ≡ true → table_text table c ≡ names.text c
 texts_by names table agrees c h =
-    let one = element_at table c (ltb-true c (length table) h) in
+    let one = get_there table c (ltb-true c (length table) h) in
     ap (λ o. text_or o (zeros (suc (total table + c)))) one.1 ∙ sym (text_of names table agrees c one.0 one.1)
 
 pub cat_is : (names : Numbering) (table : List (List ℕ)) → Extends first_texts table → AgreesWith names table → names.number (codes "cat") ≡ 33

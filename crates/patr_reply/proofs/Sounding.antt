@@ -2,6 +2,7 @@
 use Rattle.std.proofs.Common.{◌≡◌, ℕ, suc, ◌≤◌, ltb-true, List, [], ◌∷◌, map, length, Some, slice_get, refl, ap, ◌∙◌, subst, arith}
 use Rattle.std.specs.List.{AllByRecursion}
 use Rattle.std.proofs.lemmas.List.{length-append}
+use Rattle.patr_lists.proofs.Places.{get_there}
 use Rattle.patr_model.specs.Structure.{Value, Structure}
 use Rattle.patr_model.specs.Derivation.{Rules, IsComplete}
 use Rattle.patr_model.specs.Solution.{IsLeastValue}
@@ -17,7 +18,6 @@ use Rattle.patr_chart.specs.Charted.{alone, tree}
 use Rattle.patr_chart.proofs.Trees.{tree_alone}
 use Rattle.patr_library.specs.Stored.{Stored, rules_of}
 use Rattle.patr_parse.specs.Found.{AreSound, IsOfItem}
-use Rattle.patr_parse.proofs.Members.{element_at}
 use Rattle.patr_reply.specs.Held.{AreHeldBy}
 use Rattle.patr_reply.specs.Naming.{HasNamed}
 use Rattle.patr_reply.specs.Sources.{IsOfLibrary, AreOfLibrary, IsReady}
@@ -55,7 +55,7 @@ module _ (n : ℕ) (known : 38 ≤ n) (s : Stored) (held : AreHeldBy n s) (v : S
   pub all_ready : (ws : List ℕ) (cat : ℕ) (ks : List ℕ) → AllByRecursion (λ k. suc k ≤ length es) ks → AllByRecursion (IsAnalysis (solved g cat) g ws) (map (tree es) ks) → AllByRecursion (IsReady n v es) ks
   all_ready ws cat [] within each = tt
   all_ready ws cat (k ∷ ks) within each =
-      let there = element_at es k (omega (arith, within.0)) in
+      let there = get_there es k (omega (arith, within.0)) in
       let named = named_below k there.0 there.1 each.0.complete in (
         record {
           edge = there.0;

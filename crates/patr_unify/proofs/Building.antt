@@ -4,16 +4,18 @@ use Rattle.std.proofs.Math.Seq.{get_or-append_seam}
 use Rattle.std.specs.List.Sorted.{IsStrictlyIncreasing}
 use Rattle.std.proofs.lemmas.Bool.{cases_eq, and_from}
 use Rattle.std.proofs.lemmas.List.{length-map, map-append}
+use Rattle.patr_lists.proofs.Totals.{total_same}
+use Rattle.patr_lists.proofs.Members.{no_longer}
+use Rattle.patr_lists.specs.Members.{IsIn}
+use Rattle.patr_lists.specs.Numbers.{total}
 use Rattle.patr_model.specs.Structure.{Value, Atom, Node, Arc, HasDistinct, IsBelow, along, arc, arcs_of}
-use Rattle.patr_marks.specs.Machine.{Has, IsIn, own, total}
+use Rattle.patr_marks.specs.Machine.{Has, own}
 use Rattle.patr_marks.specs.Quotient.{Below}
 use Rattle.patr_marks.specs.Settled.{Copy, Copying, IsCopy, IsSparing, all_arcs, base, covered, extend, keep_end, keeps, led_by, new_end, stays, through, IsFinal, follow}
 use Rattle.patr_marks.specs.Settled as marks_settled
 use Rattle.patr_marks.specs.Sides.{IsSide, sides}
 use Rattle.patr_marks.proofs.Lists.{has_left}
 use Rattle.patr_marks.proofs.Copy.{base_below, base_has, kept_is_copy, node_is_copy, put_in, put_same, stays_has}
-use Rattle.patr_marks.proofs.Bounds.{stack_room}
-use Rattle.patr_marks.proofs.Room.{total_same}
 use Rattle.patr_marks.proofs.Untouched.{extend_spares, stays_from}
 use Rattle.patr_arena.specs.Blocks.{OldIsHeld}
 use Rattle.patr_arena.specs.Paths.{feature_to}
@@ -91,7 +93,7 @@ module _ (v : Shown) (s : IsShown v) (w t u : Contents) (l : ℕ) (r : Value) (p
   -- there is room for it
   pub room_to_enter : (ls : List ℕ) → ((k : ℕ) → IsSide v.structure l r k → IsIn ls k) → length ls ≤ w.visit_room → length ls ≤ w.pair_room + 1 → length rest ≡ length t.visits → length t.pairs ≡ length rest → HasRoomToEnter v t (key v top)
   room_to_enter ls covers room few size pairs a x q h o =
-      let fits = stack_room (key v q ∷ key v top ∷ rest) ls (falling_once has.rank (key v q ∷ key v top ∷ rest) (entering_falls a x q h o)) (λ k m. covers k (is_side k (stack_reached a x q h o k m))) in
+      let fits = no_longer (key v q ∷ key v top ∷ rest) ls (falling_once has.rank (key v q ∷ key v top ∷ rest) (entering_falls a x q h o)) (λ k m. covers k (is_side k (stack_reached a x q h o k m))) in
       (omega (arith, fits, room, size, has.still.visit_room), omega (arith, fits, few, pairs, has.still.pair_room))
 
   -- it is entered

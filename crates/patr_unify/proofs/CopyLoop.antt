@@ -2,11 +2,10 @@
 use Rattle.std.proofs.Common.{◌≡◌, ◌≢◌, ℕ, zero, suc, ◌+◌, ◌*◌, ◌<◌, inl, inr, List, [], ◌∷◌, ◌++◌, length, length-append, refl, sym, ap, ◌∙◌, subst, arith, ◌≤◌, None, map}
 use Rattle.std.proofs.lemmas.Bool.{cases_eq}
 use Rattle.patr_model.specs.Structure.{Value, Node}
-use Rattle.patr_marks.specs.Machine.{Has, total, IsIn}
+use Rattle.patr_marks.specs.Machine.{Has}
 use Rattle.patr_marks.specs.Settled.{Copy, Copying, IsCopy, IsSparing, all_arcs, base, covered, extend, keep_end, keeps, led_by, new_end, stays, through, IsFinal, follow, IsSettled}
 use Rattle.patr_marks.specs.Settled as marks_settled
 use Rattle.patr_marks.specs.Sides.{IsSide}
-use Rattle.patr_marks.proofs.Room.{total_change}
 use Rattle.patr_marks.proofs.Growth.{nothing_spares}
 use Rattle.patr_marks.proofs.Reach.{copy_starts}
 use Rattle.patr_arena.specs.Blocks.{OldIsHeld}
@@ -24,12 +23,13 @@ use Rattle.patr_unify.specs.Deciding.{IsEndOfLeft, IsSettledFor, marks_by}
 use Rattle.patr_unify.specs.Merging.{both}
 use Rattle.patr_unify.specs.Reading.{key, forward_of}
 use Rattle.patr_unify.specs.Walking.{IsVisited, end_value, visit_of, ArePaused, IsFoundAt, IsTakenFrom, VisitsHeld, cursors_of, stack_of}
-use Rattle.patr_unify.specs.Stepping.{upto}
 use Rattle.patr_unify.proofs.Keys.{node_one}
 use Rattle.patr_unify.proofs.Outcomes.{key_below}
-use Rattle.patr_unify.proofs.Running.{total_ext, upto_in, upto_once}
 use Rattle.patr_unify.proofs.Worked.{HasCopied, IsWorked, marked_keeps, still_worked, worked_end}
 use Rattle.std.proofs.lemmas.List.{length-map}
+use Rattle.patr_lists.proofs.Totals.{total_change, upto_once, upto_in, total_ext}
+use Rattle.patr_lists.specs.Members.{IsIn}
+use Rattle.patr_lists.specs.Numbers.{total, upto}
 use Rattle.patr_marks.proofs.Settles.{follow_final}
 use Rattle.patr_marks.proofs.Walk.{rank}
 use Rattle.patr_arena.specs.declared.value.Ref.{Ref}

@@ -1,61 +1,43 @@
 -- What a value reaches, counted node by node.
-use Rattle.std.proofs.Common.{◌≡◌, ◌≢◌, ℕ, ◌+◌, ◌<◌, ◌⊎◌, inl, inr, Bool, true, false, cond, nat_eq, Some, option_and_then, List, [], ◌∷◌, ◌++◌, length, length-append, drop, get_or, not, refl, sym, ap, ◌∙◌, subst, arith, eqb-true, eq-eqb, ne_eqb, true≢false}
+use Rattle.std.proofs.Common.{◌≡◌, ◌≢◌, ℕ, ◌+◌, ◌<◌, ◌⊎◌, inl, inr, Bool, true, false, cond, nat_eq, Some, List, [], ◌∷◌, ◌++◌, length, length-append, drop, get_or, not, refl, sym, ap, ◌∙◌, subst, arith, eqb-true, eq-eqb, ne_eqb, true≢false}
 use Rattle.std.proofs.lemmas.List.{append_assoc, drop_more, length-map, map-append}
 use Rattle.std.specs.HashSet.{HashSet, contains, hash_set_len}
+use Rattle.patr_marks.proofs.Reach.{at_more}
+use Rattle.patr_lists.proofs.Members.{in_cases, in_right, in_left}
+use Rattle.patr_lists.proofs.Totals.{total_change, total_same, upto_once, upto_in}
+use Rattle.patr_lists.specs.Numbers.{upto}
+use Rattle.patr_lists.specs.Members.{IsIn}
 use Rattle.patr_model.specs.Structure.{Value, Atom, Node, Arcs, Structure, HasDistinct, IsReached, arc, at}
 use Rattle.patr_model.proofs.Maps.{and_then_some}
-use Rattle.patr_marks.specs.Machine.{Has, IsIn, own}
+use Rattle.patr_marks.specs.Machine.{Has, own}
 use Rattle.patr_marks.proofs.Lists.{along_has, distinct_along}
-use Rattle.patr_marks.proofs.Room.{total_change, total_same}
 use Rattle.patr_arena.specs.declared.value.Value as its
 use Rattle.patr_arena.specs.declared.value.Feature.{Feature}
 use Rattle.patr_arena.specs.Shown.{Shown, IsShown, ValueIsHeld, arcs_from, ref_of, value_of}
 use Rattle.patr_unify.specs.Deciding.{IsReachOf}
-use Rattle.patr_unify.specs.Counting.{IsLookedAt, IsNoted, IsReaching, ValuesHeld, Waits, targets, unseen_arcs, values}
-use Rattle.patr_unify.specs.Stepping.{upto}
-use Rattle.patr_unify.proofs.Running.{upto_in, upto_once}
+use Rattle.patr_unify.specs.Counting.{IsLookedAt, IsNoted, IsReaching, ValuesHeld, targets, unseen_arcs, values}
 
-waits_left : (xs ys : List Value) (z : Value) → Waits xs z → Waits (xs ++ ys) z
-waits_left [] ys z h = absurd h
-waits_left (x ∷ xs) ys z (inl e) = inl e
-waits_left (x ∷ xs) ys z (inr h) = inr (waits_left xs ys z h)
-
-waits_right : (xs ys : List Value) (z : Value) → Waits ys z → Waits (xs ++ ys) z
-waits_right [] ys z h = h
-waits_right (x ∷ xs) ys z h = inr (waits_right xs ys z h)
-
-waits_cases : (xs ys : List Value) (z : Value) → Waits (xs ++ ys) z → Waits xs z ⊎ Waits ys z
-waits_cases [] ys z h = inr h
-waits_cases (x ∷ xs) ys z (inl e) = inl (inl e)
-waits_cases (x ∷ xs) ys z (inr h) = elim (waits_cases xs ys z h) [ inl g ↦ inl (inr g) | inr g ↦ inr g ]
-
-target_waits : (es : Arcs) (a : ℕ) (y : Value) → Has es a y → Waits (targets es) y
+target_waits : (es : Arcs) (a : ℕ) (y : Value) → Has es a y → IsIn (targets es) y
 target_waits [] a y h = absurd h
 target_waits (e ∷ es) a y (inl h) = inl h.1
 target_waits (e ∷ es) a y (inr h) = inr (target_waits es a y h)
 
-waits_target : (es : Arcs) (y : Value) → Waits (targets es) y → (a : ℕ) × Has es a y
+waits_target : (es : Arcs) (y : Value) → IsIn (targets es) y → (a : ℕ) × Has es a y
 waits_target [] y h = absurd h
 waits_target (e ∷ es) y (inl h) = (e.attribute, inl (refl, h))
 waits_target (e ∷ es) y (inr h) = let r = waits_target es y h in (r.0, inr r.1)
 
-noted_more : (ks js : List ℕ) (ws us : List Value) (y : Value) → ((k : ℕ) → IsIn ks k → IsIn js k) → ((k : ℕ) → Waits ws (Node k) → IsIn js k ⊎ Waits us (Node k)) → IsNoted ks ws y → IsNoted js us y
+noted_more : (ks js : List ℕ) (ws us : List Value) (y : Value) → ((k : ℕ) → IsIn ks k → IsIn js k) → ((k : ℕ) → IsIn ws (Node k) → IsIn js k ⊎ IsIn us (Node k)) → IsNoted ks ws y → IsNoted js us y
 noted_more ks js ws us (Atom c) f g h = tt
 noted_more ks js ws us (Node k) f g (inl h) = inl (f k h)
 noted_more ks js ws us (Node k) f g (inr h) = g k h
-
-pub at_more : (S : Structure) (q : List ℕ) (v w z : Value) (a : ℕ) → at S v q ≡ Some w → arc S w a ≡ Some z → at S v (q ++ (a ∷ [])) ≡ Some z
-at_more S [] v w z a h e = let s : v ≡ w = cc in ap (option_and_then (λ u. Some u)) (ap (λ u. arc S u a) s ∙ e)
-at_more S (b ∷ q) v w z a h e =
-    let s = and_then_some (arc S v b) (λ u. at S u q) w h in
-    ap (option_and_then (λ u. at S u (q ++ (a ∷ [])))) s.1 ∙ at_more S q s.0 w z a s.2 e
 
 -- the last value is an atom, or was looked at before
 pub reaching_dropped : (S : Structure) (x y : Value) (ks : List ℕ) (ws : List Value) → IsNoted ks [] y → IsReaching S x ks (ws ++ y ∷ []) → IsReaching S x ks ws
 reaching_dropped S x y ks ws known i = record {
   once = i.once;
   reached = i.reached;
-  waits = λ z h. i.waits z (waits_left ws (y ∷ []) z h);
+  waits = λ z h. i.waits z (in_left ws (y ∷ []) z h);
   first = noted_more ks ks (ws ++ y ∷ []) ws x (λ k h. h) gone i.first;
   closed = λ k a z h e. noted_more ks ks (ws ++ y ∷ []) ws z (λ j g. g) gone (i.closed k a z h e);
 }
@@ -64,15 +46,15 @@ reaching_dropped S x y ks ws known i = record {
     seen k (inl h) = h
     seen k (inr h) = absurd h
 
-    gone : (k : ℕ) → Waits (ws ++ y ∷ []) (Node k) → IsIn ks k ⊎ Waits ws (Node k)
-    gone k h = elim (waits_cases ws (y ∷ []) (Node k) h) [ inl g ↦ inr g | inr g ↦ elim g [ inl e ↦ inl (seen k (subst (IsNoted ks []) e known)) | inr n ↦ absurd n ] ]
+    gone : (k : ℕ) → IsIn (ws ++ y ∷ []) (Node k) → IsIn ks k ⊎ IsIn ws (Node k)
+    gone k h = elim (in_cases ws (y ∷ []) (Node k) h) [ inl g ↦ inr g | inr g ↦ elim g [ inl e ↦ inl (seen k (subst (IsNoted ks []) e known)) | inr n ↦ absurd n ] ]
 
 -- the last value is a node that was not looked at: what its arcs lead to waits
 pub reaching_new : (S : Structure) (x : Value) (n : ℕ) (ks : List ℕ) (ws : List Value) → HasDistinct (own S n) → (IsIn ks n → ⊥) → IsReaching S x ks (ws ++ Node n ∷ []) → IsReaching S x (n ∷ ks) (ws ++ targets (own S n))
 reaching_new S x n ks ws distinct new i = record {
   once = (new, i.once);
   reached = λ k h. elim h [ inl e ↦ subst (IsReached S x) e root | inr g ↦ i.reached k g ];
-  waits = λ y h. elim (waits_cases ws (targets (own S n)) y h) [ inl g ↦ i.waits y (waits_left ws (Node n ∷ []) y g) | inr g ↦ led y g ];
+  waits = λ y h. elim (in_cases ws (targets (own S n)) y h) [ inl g ↦ i.waits y (in_left ws (Node n ∷ []) y g) | inr g ↦ led y g ];
   first = noted_more ks (n ∷ ks) (ws ++ Node n ∷ []) (ws ++ targets (own S n)) x (λ k h. inr h) kept i.first;
   closed = λ k a y h e. elim h [
     | inl q ↦ noted y (target_waits (own S n) a y (along_has (own S n) a y (subst (λ (j : ℕ). arc S (Node j) a ≡ Some y) (sym q) e)))
@@ -81,19 +63,19 @@ reaching_new S x n ks ws distinct new i = record {
 }
   where
     root : IsReached S x n
-    root = i.waits (Node n) (waits_right ws (Node n ∷ []) (Node n) (inl refl))
+    root = i.waits (Node n) (in_right ws (Node n ∷ []) (Node n) (inl refl))
 
-    led : (y : Value) → Waits (targets (own S n)) y → (p : List ℕ) × (at S x p ≡ Some y)
+    led : (y : Value) → IsIn (targets (own S n)) y → (p : List ℕ) × (at S x p ≡ Some y)
     led y h =
         let t = waits_target (own S n) y h in
         (root.0 ++ (t.0 ∷ []), at_more S root.0 x (Node n) y t.0 root.1 (distinct_along (own S n) t.0 y distinct t.1))
 
-    kept : (k : ℕ) → Waits (ws ++ Node n ∷ []) (Node k) → IsIn (n ∷ ks) k ⊎ Waits (ws ++ targets (own S n)) (Node k)
-    kept k h = elim (waits_cases ws (Node n ∷ []) (Node k) h) [ inl g ↦ inr (waits_left ws (targets (own S n)) (Node k) g) | inr g ↦ elim g [ inl e ↦ inl (inl cc) | inr m ↦ absurd m ] ]
+    kept : (k : ℕ) → IsIn (ws ++ Node n ∷ []) (Node k) → IsIn (n ∷ ks) k ⊎ IsIn (ws ++ targets (own S n)) (Node k)
+    kept k h = elim (in_cases ws (Node n ∷ []) (Node k) h) [ inl g ↦ inr (in_left ws (targets (own S n)) (Node k) g) | inr g ↦ elim g [ inl e ↦ inl (inl cc) | inr m ↦ absurd m ] ]
 
-    noted : (y : Value) → Waits (targets (own S n)) y → IsNoted (n ∷ ks) (ws ++ targets (own S n)) y
+    noted : (y : Value) → IsIn (targets (own S n)) y → IsNoted (n ∷ ks) (ws ++ targets (own S n)) y
     noted (Atom c) h = tt
-    noted (Node k) h = inr (waits_right ws (targets (own S n)) (Node k) h)
+    noted (Node k) h = inr (in_right ws (targets (own S n)) (Node k) h)
 
 -- nothing waits: the list has all that is reached
 pub reaching_ends : (S : Structure) (x : Value) (ks : List ℕ) → IsReaching S x ks [] → IsReachOf S x ks

@@ -1,10 +1,15 @@
 -- How a decision begins and ends.
-use Rattle.std.proofs.Common.{◌≡◌, ℕ, zero, suc, ◌+◌, ◌<◌, ◌≤◌, ◌⊎◌, inl, inr, Option, Some, None, List, [], ◌∷◌, ◌++◌, length, length-append, map, replicate, get_or, refl, sym, ap, ◌∙◌, subst, arith}
+use Rattle.std.proofs.Common.{◌≡◌, ℕ, zero, suc, ◌+◌, ◌<◌, ◌≤◌, inl, inr, Option, Some, None, List, [], ◌∷◌, ◌++◌, length, length-append, map, replicate, get_or, refl, sym, ap, ◌∙◌, subst, arith}
 use Rattle.std.proofs.lemmas.List.{length-map, length-replicate}
+use Rattle.patr_lists.proofs.Members.{once_append, in_right, in_left}
+use Rattle.patr_lists.proofs.Places.{below_or_behind}
+use Rattle.patr_lists.proofs.Totals.{total_same, total_append, total_ext}
+use Rattle.patr_lists.specs.Members.{NoRepeats, IsIn}
+use Rattle.patr_lists.specs.Numbers.{total}
 use Rattle.patr_model.specs.Structure.{Value, Node, Arc, Arcs, Structure, IsStructure, IsValue, at}
 use Rattle.patr_model.specs.Subsumption.{TakesBoth}
 use Rattle.patr_model.specs.Settled.{IsSideNode}
-use Rattle.patr_marks.specs.Machine.{Pair, State, Has, IsIn, NoRepeats, ends, own, total, weight, degree, lookup}
+use Rattle.patr_marks.specs.Machine.{Pair, State, Has, ends, own, weight, degree, lookup}
 use Rattle.patr_marks.specs.Named.{side_of}
 use Rattle.patr_marks.specs.Run.{IsRun, first_pair}
 use Rattle.patr_marks.specs.Settled.{IsSettled, IsTidy, Marks}
@@ -12,9 +17,8 @@ use Rattle.patr_marks.specs.Sides.{IsSide, shift, shifted, sides}
 use Rattle.patr_marks.specs.Walk.{ReachedIn}
 use Rattle.patr_marks.proofs.Bounds.{start_room}
 use Rattle.patr_marks.proofs.Named.{left_within, reached_below, side_left, side_right, side_to}
-use Rattle.patr_marks.proofs.Room.{total_same}
 use Rattle.patr_marks.proofs.Settles.{settles, tidies}
-use Rattle.patr_marks.proofs.Sides.{below_or_behind, own_left, own_right}
+use Rattle.patr_marks.proofs.Sides.{own_left, own_right}
 use Rattle.patr_marks.proofs.Unifier.{cycle_ends, reached_side, root_side, run_starts}
 use Rattle.patr_arena.specs.Shown.{Shown, IsShown, ValueIsHeld, value_of}
 use Rattle.patr_arena.specs.declared.value.Value as its
@@ -27,18 +31,12 @@ use Rattle.patr_unify.specs.Reading.{AreHeld, LinksHeld, OptionIsHeld, added_of,
 use Rattle.patr_unify.specs.Stepping.{Covers, IsRunning}
 use Rattle.patr_unify.specs.Walking.{IsLedBack, IsStill, IsWalkable, IsWalkedOff}
 use Rattle.patr_unify.proofs.Keys.{target_held, target_value}
-use Rattle.patr_unify.proofs.Edges.{in_left, in_right, reach_edges}
-use Rattle.patr_unify.proofs.Running.{total_ext}
+use Rattle.patr_unify.proofs.Edges.{reach_edges}
 use Rattle.patr_unify.proofs.Walked.{still_added, still_both, still_end, still_ends, still_forward, still_held}
 
 -- all side nodes: the right side's behind those of the left
 abbrev pub both_lists : ℕ → List ℕ → List ℕ → List ℕ
 both_lists n ls rs = ls ++ map (λ k. n + k) rs
-
-pub in_cases : (xs ys : List ℕ) (k : ℕ) → IsIn (xs ++ ys) k → IsIn xs k ⊎ IsIn ys k
-in_cases [] ys k h = inr h
-in_cases (x ∷ xs) ys k (inl e) = inl (inl e)
-in_cases (x ∷ xs) ys k (inr h) = elim (in_cases xs ys k h) [ inl m ↦ inl (inr m) | inr m ↦ inr m ]
 
 in_map : (n : ℕ) (xs : List ℕ) (k : ℕ) → IsIn xs k → IsIn (map (λ j. n + j) xs) (n + k)
 in_map n [] k h = absurd h
@@ -56,14 +54,6 @@ once_map n (x ∷ xs) h = ((λ m. let r = map_in n xs (n + x) m in h.0 (subst (I
   where
     same : (n x j : ℕ) → n + x ≡ n + j → j ≡ x
     same n x j e = omega (arith, e)
-
-pub once_append : (xs ys : List ℕ) → NoRepeats xs → NoRepeats ys → ((k : ℕ) → IsIn xs k → IsIn ys k → ⊥) → NoRepeats (xs ++ ys)
-once_append [] ys h g d = g
-once_append (x ∷ xs) ys h g d = ((λ m. elim (in_cases xs ys x m) [ inl n ↦ h.0 n | inr n ↦ d x (inl refl) n ]), once_append xs ys h.1 g (λ k m n. d k (inr m) n))
-
-total_append : (f : ℕ → ℕ) (xs ys : List ℕ) → total f (xs ++ ys) ≡ total f xs + total f ys
-total_append f [] ys = omega arith
-total_append f (x ∷ xs) ys = let r = total_append f xs ys in omega (arith, r)
 
 total_map : (f : ℕ → ℕ) (n : ℕ) (xs : List ℕ) → total f (map (λ k. n + k) xs) ≡ total (λ k. f (n + k)) xs
 total_map f n [] = refl

@@ -1,22 +1,14 @@
 -- What a value reaches has at most one node more than arcs.
 use Rattle.std.proofs.Common.{◌≡◌, ℕ, ◌+◌, ◌≤◌, ◌⊎◌, inl, inr, Some, List, [], ◌∷◌, ◌++◌, length, length-append, refl, sym, ap, ◌∙◌, subst, arith}
+use Rattle.patr_marks.proofs.Reach.{at_more}
+use Rattle.patr_lists.proofs.Members.{no_longer, in_right, in_left}
+use Rattle.patr_lists.specs.Members.{IsIn}
+use Rattle.patr_lists.specs.Numbers.{total}
 use Rattle.patr_model.specs.Structure.{Value, Atom, Node, Arcs, Structure, IsReached, arc, at}
 use Rattle.patr_model.proofs.Maps.{and_then_some}
-use Rattle.patr_marks.specs.Machine.{Has, IsIn, own, total}
-use Rattle.patr_marks.proofs.Bounds.{stack_room}
+use Rattle.patr_marks.specs.Machine.{Has, own}
 use Rattle.patr_marks.proofs.Lists.{along_has}
 use Rattle.patr_unify.specs.Deciding.{IsReachOf}
-use Rattle.patr_unify.proofs.Counting.{at_more}
-
--- what is in one of two lists is in both together
-pub in_left : (xs ys : List ℕ) (k : ℕ) → IsIn xs k → IsIn (xs ++ ys) k
-in_left [] ys k h = absurd h
-in_left (x ∷ xs) ys k (inl e) = inl e
-in_left (x ∷ xs) ys k (inr h) = inr (in_left xs ys k h)
-
-pub in_right : (xs ys : List ℕ) (k : ℕ) → IsIn ys k → IsIn (xs ++ ys) k
-in_right [] ys k h = h
-in_right (x ∷ xs) ys k h = inr (in_right xs ys k h)
 
 -- the node that a value is
 node_of : Value → List ℕ
@@ -81,7 +73,7 @@ led_to S x q (Node j) (a ∷ p) k h e =
 pub reach_edges : (S : Structure) (x : Value) (ks : List ℕ) → IsReachOf S x ks → length ks ≤ total (λ k. length (own S k)) ks + 1
 unfolding node_of
 reach_edges S x ks i =
-    let fits = stack_room ks (node_of x ++ heads_of S ks) i.once all in
+    let fits = no_longer ks (node_of x ++ heads_of S ks) i.once all in
     let size = length-append (node_of x) (heads_of S ks) in
     let one = one_most x in
     let more = all_most S ks in

@@ -1,5 +1,5 @@
 -- Places of both sides, their slots, and their arcs.
-use Rattle.std.proofs.Common.{◌≡◌, ℕ, ◌+◌, ◌-◌, ◌*◌, ◌<◌, ◌≤◌, inl, Bool, true, false, cond, nat_eq, nat_lt, ◌||◌, Option, Some, None, option_and_then, List, [], ◌∷◌, ◌++◌, length, refl, sym, ap, ◌∙◌, subst, arith, eq-eqb}
+use Rattle.std.proofs.Common.{◌≡◌, ℕ, ◌+◌, ◌-◌, ◌*◌, ◌<◌, ◌≤◌, inl, Bool, true, false, cond, nat_eq, nat_lt, ◌||◌, Option, Some, None, option_and_then, List, [], ◌∷◌, ◌++◌, length, refl, sym, ap, ◌∙◌, subst, arith}
 use Rattle.patr_model.specs.Structure.{Value, Node, Arcs, along, at}
 use Rattle.patr_marks.specs.Machine.{own, has_attribute}
 use Rattle.patr_marks.specs.Sides.{shift, shifted, sides}
@@ -13,7 +13,7 @@ use Rattle.patr_scratch.specs.declared.Side.{Side}
 use Rattle.patr_scratch.specs.declared.Side.TheVariants as side
 use Rattle.patr_scratch.specs.declared.Place.{Place}
 use Rattle.patr_scratch.specs.declared.Target.{Target}
-use Rattle.patr_scratch.specs.Contents.{Link, PlaceMarks, Contents, slot, marks, after, first_cell, from_cell, EndsOrHas}
+use Rattle.patr_scratch.specs.Contents.{Link, PlaceMarks, Contents, slot, marks, first_cell, EndsOrHas}
 use Rattle.patr_unify.specs.Reading.{behind, key, value_at, TargetIsHeld, slot_of, marks_in, marks_of, option_at, forward_of, arcs_at, added_of, LinksHeld, OptionIsHeld, AreHeld, has_link, link_to, value_on, arcs_on, target_on}
 use Rattle.patr_unify.specs.Merging.{both}
 
@@ -167,10 +167,6 @@ pub forward_held : (v : Shown) (w : Contents) → IsShown v → AreHeld v w → 
     → o ≡ (marks w p.side number).forward → OptionIsHeld v o
 forward_held v w s i p number o h e g =
     subst (OptionIsHeld v) (sym (g ∙ ap (λ (m : PlaceMarks). m.forward) (key_marks v w s p number h e))) (i.forwards (slot_of (length v.structure) (key v p)))
-
-pub after_first : (ls : List Link) → after ls (first_cell ls) ≡ ls
-after_first [] = refl
-after_first (l ∷ ls) = ap (λ b. cond b (l ∷ ls) (from_cell ls l.cell)) (eq-eqb l.cell l.cell refl)
 
 pub first_has : (ls : List Link) → EndsOrHas ls (first_cell ls)
 first_has [] = tt

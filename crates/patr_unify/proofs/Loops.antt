@@ -1,6 +1,7 @@
 -- What a loop over the arcs of a place knows of the next one, and whether there is one.
 use Rattle.std.proofs.Common.{◌≡◌, ℕ, ◌+◌, ◌<◌, ◌≤◌, inl, Option, Some, None, List, [], ◌∷◌, length, drop, get_or, refl, sym, ap, ◌∙◌, subst, ◌++◌, arith}
 use Rattle.std.proofs.lemmas.List.{get_or_default}
+use Rattle.patr_scratch.proofs.Linking.{after_first}
 use Rattle.patr_model.specs.Structure.{Arcs, Value}
 use Rattle.patr_marks.specs.Machine.{Has, own}
 use Rattle.patr_marks.specs.Sides.{sides, shift}
@@ -15,7 +16,7 @@ use Rattle.patr_scratch.specs.declared.Side.{Side}
 use Rattle.patr_scratch.specs.Contents.{Contents, EndsOrHas, HasCell, HasPlace, IsCell, Link, PlaceMarks, after, first_cell, marks, slot}
 use Rattle.patr_unify.specs.Merging.{both}
 use Rattle.patr_unify.specs.Reading.{AreHeld, LinksHeld, TargetIsHeld, added_of, arcs_at, key, marks_of, value_at, arcs_on}
-use Rattle.patr_unify.proofs.Keys.{after_first, first_has, key_marks, own_key}
+use Rattle.patr_unify.proofs.Keys.{first_has, key_marks, own_key}
 use Rattle.patr_unify.proofs.Merges.{place_room}
 use Rattle.patr_unify.proofs.Pushes.{after_held, next_arc}
 use Rattle.patr_unify.proofs.Takes.{all_dropped, arc_of, feature_is_held, own_drop}

@@ -1,11 +1,14 @@
 -- What was copied is a unifier that keeps what is untouched.
 use Rattle.std.proofs.Common.{◌≡◌, ℕ, zero, suc, ◌+◌, ◌<◌, inl, inr, Some, None, List, [], ◌∷◌, length, map, refl, sym, ap, ◌∙◌, subst, arith}
 use Rattle.std.proofs.lemmas.List.{length-map}
+use Rattle.patr_lists.proofs.Members.{in_map, once_map}
+use Rattle.patr_lists.proofs.Totals.{total_same, total_map}
+use Rattle.patr_lists.specs.Members.{IsIn}
 use Rattle.patr_model.specs.Structure.{Value, Atom, Node, Structure, IsReached, arcs_of, at}
 use Rattle.patr_model.specs.Settled.{Images, Keeps}
 use Rattle.patr_model.specs.Subsumption.{IsUnifier}
 use Rattle.patr_model.proofs.Maps.{some_inj}
-use Rattle.patr_marks.specs.Machine.{Has, IsIn, NoRepeats, Within, own, total}
+use Rattle.patr_marks.specs.Machine.{Has, Within, own}
 use Rattle.patr_marks.specs.Quotient.{Below}
 use Rattle.patr_marks.specs.Settled.{Copy, CopyReach, Copying, IsSettled, through}
 use Rattle.patr_marks.specs.Sides.{IsSide}
@@ -13,7 +16,6 @@ use Rattle.patr_marks.proofs.Copied.{copied_unifies}
 use Rattle.patr_marks.proofs.Kept.{copies_keep}
 use Rattle.patr_marks.proofs.Reach.{copy_starts, reach_copy, reach_only}
 use Rattle.patr_marks.proofs.Growth.{nothing_spares}
-use Rattle.patr_marks.proofs.Room.{total_same}
 use Rattle.patr_arena.specs.Shown.{Shown, IsShown, arcs_from}
 use Rattle.patr_arena.specs.Blocks.{OldIsHeld, with_block}
 use Rattle.patr_arena.specs.declared.value.Feature.{Feature}
@@ -37,22 +39,6 @@ in_by : (f : ℕ → ℕ) (ks : List ℕ) (m : ℕ) → IsIn (map f ks) m → (k
 in_by f [] m h = absurd h
 in_by f (k ∷ ks) m (inl e) = (k, inl refl, sym e)
 in_by f (k ∷ ks) m (inr h) = let r = in_by f ks m h in (r.0, inr r.1, r.2)
-
-once_by : (f : ℕ → ℕ) (ks : List ℕ) → NoRepeats ks → ((j k : ℕ) → IsIn ks j → IsIn ks k → f j ≡ f k → j ≡ k) → NoRepeats (map f ks)
-once_by f [] h one = tt
-once_by f (k ∷ ks) h one = (
-  (λ m. let r = in_by f ks (f k) m in h.0 (subst (IsIn ks) (sym (one k r.0 (inl refl) (inr r.1) r.2)) r.1)),
-  once_by f ks h.1 (λ i j a b e. one i j (inr a) (inr b) e),
-)
-
-by_in : (f : ℕ → ℕ) (ks : List ℕ) (k : ℕ) → IsIn ks k → IsIn (map f ks) (f k)
-by_in f [] k h = absurd h
-by_in f (j ∷ ks) k (inl e) = inl (ap f e)
-by_in f (j ∷ ks) k (inr h) = inr (by_in f ks k h)
-
-total_by : (g f : ℕ → ℕ) (ks : List ℕ) → total g (map f ks) ≡ total (λ k. g (f k)) ks
-total_by g f [] = refl
-total_by g f (k ∷ ks) = let r = total_by g f ks in omega (arith, r)
 
 module _ (v : Shown) (s : IsShown v) (w t : Contents) (l : ℕ) (p : List ℕ) (r : Value) (hl : l < length v.structure) (set : IsSettledFor v w l p r) (block : List (List Feature)) (nodes arcs : ℕ)
     (has : HasCopied v w t l r block nodes arcs []) where
@@ -131,7 +117,7 @@ module _ (v : Shown) (s : IsShown v) (w t : Contents) (l : ℕ) (p : List ℕ) (
     where
       go : (x : Value) × Below has.ks x × (Node m ≡ through has.value x) → IsIn list m
       go (Atom d, b, e) = cc
-      go (Node k, b, e) = subst (IsIn list) (sym (ap place_in e)) (by_in (λ k. place_in (has.value k)) has.ks k b)
+      go (Node k, b, e) = subst (IsIn list) (sym (ap place_in e)) (in_map (λ k. place_in (has.value k)) has.ks k b)
 
   new_reached : (j : ℕ) → j < length (new_nodes v block) → IsReached (with_block v block).structure top (length v.structure + j)
   new_reached j h =
@@ -150,7 +136,7 @@ module _ (v : Shown) (s : IsShown v) (w t : Contents) (l : ℕ) (p : List ℕ) (
       let is = ref_value v t (length block) has.value has.ks (end_value v w (Node l)) q has.marked root_below e in
       let mapped : length (new_nodes v block) ≡ length block = length-map block (arcs_from v (length v.sizes)) in
       let unifies = copied_unifies S l p r (marks_by v w) i (free_of v w) has.ks c has.copy (λ k h. (is_end k h).1) root_below (0, inl refl) in
-      let sum = total_by (λ k. length (own V k)) (λ k. place_in (has.value k)) has.ks in
+      let sum = total_map (λ k. length (own V k)) (λ k. place_in (has.value k)) has.ks in
       let each = total_same (λ k. length (own V (place_in (has.value k)))) (λ k. length (arcs_of V (has.value k))) has.ks (λ k h. ap (λ x. length (arcs_of V x)) (sym (value_node k h))) in
       let arcs_were = has.arcs_are in
       let size = length-map has.ks (λ k. place_in (has.value k)) in
@@ -163,7 +149,7 @@ module _ (v : Shown) (s : IsShown v) (w t : Contents) (l : ℕ) (p : List ℕ) (
         counts = record {
           list = list;
           is = record {
-            once = once_by (λ k. place_in (has.value k)) has.ks has.once one_place;
+            once = once_map (λ k. place_in (has.value k)) has.ks has.once one_place;
             reached = λ m h. subst (λ z. IsReached G z m) (sym is.0) (list_reached m h);
             all = λ m h. all_in m (subst (λ z. IsReached G z m) is.0 h);
           };

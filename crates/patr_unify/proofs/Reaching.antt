@@ -1,5 +1,7 @@
 -- The ends of settled marks are reached from the left side's end, and which places a copy may keep.
 use Rattle.std.proofs.Common.{◌≡◌, ℕ, zero, suc, ◌-◌, ◌<◌, inl, inr, true, false, cond, Option, Some, None, List, [], ◌∷◌, length, refl, sym, ap, ◌∙◌, subst, arith}
+use Rattle.patr_model.proofs.EquationStructures.{at_below}
+use Rattle.patr_lists.proofs.Places.{below_or_behind}
 use Rattle.patr_model.specs.Structure.{Value, Atom, Node, Structure, IsReached, arc, at}
 use Rattle.patr_model.specs.Settled.{IsSideNode}
 use Rattle.patr_model.proofs.Maps.{and_then_some, some_inj}
@@ -9,9 +11,9 @@ use Rattle.patr_marks.specs.Settled.{Fits, IsEndNode, IsFinal, IsSettled, IsTidy
 use Rattle.patr_marks.specs.Sides.{IsSide, shift, sides}
 use Rattle.patr_marks.proofs.Follow.{settled_within}
 use Rattle.patr_marks.proofs.Copied.{end_facts, one_end}
-use Rattle.patr_marks.proofs.Named.{path_below, root_within, reached_below, side_left, side_right, side_to}
+use Rattle.patr_marks.proofs.Named.{root_within, reached_below, side_left, side_right, side_to}
 use Rattle.patr_marks.proofs.Settles.{follow_final}
-use Rattle.patr_marks.proofs.Sides.{below_or_behind, sides_least}
+use Rattle.patr_marks.proofs.Sides.{sides_least}
 use Rattle.patr_marks.proofs.Unifier.{side_closed}
 use Rattle.patr_marks.proofs.Walk.{rank, rank_arc}
 use Rattle.patr_arena.specs.Shown.{Shown, IsShown}
@@ -160,7 +162,7 @@ module _ (v : Shown) (s : IsShown v) (w : Contents) (l : ℕ) (p : List ℕ) (r 
   }
     where
       right_below : (k : ℕ) → IsReached v.structure r k → k < length v.structure
-      right_below k h = path_below S s.structure (length S) h.0 r (Node k) set.right h.1
+      right_below k h = at_below S s.structure (length S) h.0 r (Node k) set.right h.1
 
   pub copy_fits : Fits (IsSide v.structure l r) (copying_by v w)
   copy_fits = record {
@@ -170,7 +172,7 @@ module _ (v : Shown) (s : IsShown v) (w : Contents) (l : ℕ) (p : List ℕ) (r 
       | inl b ↦ omega (arith, b)
       | inr b ↦
           let there = subst (IsSideNode S (Node l) S r) (ap (side_of (length S)) b.1 ∙ side_right (length S) b.0) (side_to S s.structure l r hl k h) in
-          let low = path_below S s.structure (length S) there.0 r (Node b.0) set.right there.1 in
+          let low = at_below S s.structure (length S) there.0 r (Node b.0) set.right there.1 in
           let e = b.1 in
           omega (arith, low, e)
     ];

@@ -1,14 +1,15 @@
 -- Pairs are worked off one after the other.
-use Rattle.std.proofs.Common.{◌≡◌, ◌≢◌, ℕ, zero, suc, ◌+◌, ◌*◌, ◌<◌, ◌≤◌, inl, inr, Bool, true, false, cond, nat_eq, ◌||◌, Some, List, [], ◌∷◌, ◌++◌, length, length-append, refl, sym, ap, ◌∙◌, subst, arith, eq-eqb, ne_eqb}
-use Rattle.std.proofs.lemmas.Bool.{cases_eq}
+use Rattle.std.proofs.Common.{◌≡◌, ◌≢◌, ℕ, suc, ◌+◌, ◌*◌, ◌<◌, ◌≤◌, inl, inr, Bool, true, false, cond, nat_eq, ◌||◌, Some, List, [], ◌∷◌, ◌++◌, length, length-append, refl, sym, ap, ◌∙◌, subst, arith, eq-eqb, ne_eqb}
+use Rattle.patr_lists.proofs.Totals.{total_change, upto_once, upto_in, total_ext, total_mono, total_member}
+use Rattle.patr_lists.specs.Numbers.{total, upto}
 use Rattle.patr_model.specs.Structure.{Value, Atom, Node, Arcs, Structure, IsValue, at}
 use Rattle.patr_model.specs.Subsumption.{TakesBoth}
-use Rattle.patr_marks.specs.Machine.{Forward, Pair, State, Has, IsLog, Ends, ends, IsEnd, IsIn, NoRepeats, IsMerge, own, missing, matches, arcs_at, weight, left_over, total, is_forwarded, degree, lookup}
+use Rattle.patr_marks.specs.Machine.{Forward, Pair, State, Has, IsLog, Ends, ends, IsEnd, IsMerge, own, missing, matches, arcs_at, weight, left_over, is_forwarded, degree, lookup}
 use Rattle.patr_marks.specs.Sides.{sides, IsSide}
 use Rattle.patr_marks.specs.Run.{IsRun}
 use Rattle.patr_marks.proofs.Lists.{ends_twice}
 use Rattle.patr_marks.proofs.Forced.{popped_within}
-use Rattle.patr_marks.proofs.Room.{merge_room, end_not_forwarded, total_change}
+use Rattle.patr_marks.proofs.Room.{merge_room, end_not_forwarded}
 use Rattle.patr_marks.proofs.Bounds.{bind_room, skip_room}
 use Rattle.patr_marks.proofs.Unifier.{run_merges, run_binds, run_skips, clash_ends}
 use Rattle.patr_arena.specs.Shown.{Shown, IsShown}
@@ -16,7 +17,7 @@ use Rattle.patr_scratch.specs.declared.Target.{Target}
 use Rattle.patr_scratch.specs.Contents.{Contents}
 use Rattle.patr_unify.specs.Reading.{TargetIsHeld, added_of, pairs_at, PairsHeld, AreHeld, state_of}
 use Rattle.patr_unify.specs.Merging.{both}
-use Rattle.patr_unify.specs.Stepping.{HasLog, pair_of, before, MergesFit, Outcome, IsSteady, Covers, IsRunning, weight_of, upto}
+use Rattle.patr_unify.specs.Stepping.{HasLog, pair_of, before, MergesFit, Outcome, IsSteady, Covers, IsRunning, weight_of}
 use Rattle.patr_unify.specs.Following.{is_some}
 use Rattle.patr_unify.proofs.Merges.{pairs_append, pairs_length}
 
@@ -29,15 +30,6 @@ was_pushed w t p h e = ap (λ ps. record w { pairs = ps }) e ∙ sym (ap (λ (q 
 
 state_before : (v : Shown) (w : Contents) (log : List Forward) (a b : Target) → state_of v (with_pair w a b) log ≡ before v w log a b
 state_before v w log a b = ap (λ ps. (let s : State = record { log = log; added = added_of v w; pending = ps } in s)) (pairs_append v w.pairs ((a, b) ∷ []))
-
-pub total_ge : (f : ℕ → ℕ) (ks : List ℕ) (A : ℕ) → IsIn ks A → f A ≤ total f ks
-total_ge f [] A h = absurd h
-total_ge f (k ∷ ks) A (inl e) = let q : f k ≡ f A = ap f e in omega arith
-total_ge f (k ∷ ks) A (inr h) = let r = total_ge f ks A h in omega (arith, r)
-
-pub total_le : (f g : ℕ → ℕ) (ks : List ℕ) → ((k : ℕ) → f k ≤ g k) → total f ks ≤ total g ks
-total_le f g [] h = omega arith
-total_le f g (k ∷ ks) h = let r = total_le f g ks h in let q = h k in omega (arith, r, q)
 
 -- the ends of a pair are ends
 ends_end : (s : State) (p : Pair) (A : ℕ) (y : Value) → IsLog s.log → Ends s p (Node A) y → IsEnd s A
@@ -89,7 +81,7 @@ merges_fit v w a b l r target ks i c A B e n =
     let t : State = record { log = record { from = A; to = Node B } ∷ s.log; added = would_add D s A B; pending = rest ++ matches (arcs_at D s A) (arcs_at D s B) } in
     let falls = merge_room D s t A B rest p ks c.once inA inB run.marked g in
     let own_A : left_over D s A ≡ length (own D A) = ap (λ q. cond q 0 (length (own D A))) (end_not_forwarded i.log i.has_log.is_log A eA) in
-    let ge = total_ge (left_over D s) ks A inA in
+    let ge = total_member (left_over D s) ks A inA in
     record {
       pairs = omega (arith, falls, i.pair_room, length-append rest (matches (arcs_at D s A) (arcs_at D s B)), length-append rest (p ∷ []), pairs_length v w.pairs, length-append w.pairs ((a, b) ∷ []));
       arcs = omega (arith, ge, own_A, i.arc_room);
@@ -154,7 +146,7 @@ running_on v w t a b l r target ks i c k o =
 
     more_log : (D : Structure) (s u : State) (A : ℕ) (y : Value) → u.log ≡ record { from = A; to = y } ∷ s.log → t.arcs ≡ w.arcs → total (left_over (sides v.structure) u) ks + t.arcs ≤ total (left_over (sides v.structure) s) ks + w.arcs
     more_log D s u A y e q =
-        let le = total_le (left_over (sides v.structure) u) (left_over (sides v.structure) s) ks (λ k. subst (λ z. cond (is_forwarded z k) 0 (length (own (sides v.structure) k)) ≤ left_over (sides v.structure) s k) (sym e) (less (nat_eq k A) (is_forwarded s.log k) (length (own (sides v.structure) k)))) in
+        let le = total_mono (left_over (sides v.structure) u) (left_over (sides v.structure) s) ks (λ k. subst (λ z. cond (is_forwarded z k) 0 (length (own (sides v.structure) k)) ≤ left_over (sides v.structure) s k) (sym e) (less (nat_eq k A) (is_forwarded s.log k) (length (own (sides v.structure) k)))) in
         omega (arith, le, q)
       where
         less : (b d : Bool) (n : ℕ) → cond (b || d) 0 n ≤ cond d 0 n
@@ -165,7 +157,7 @@ running_on v w t a b l r target ks i c k o =
 
     same_log : (D : Structure) (s u : State) → u.log ≡ s.log → t.arcs ≡ w.arcs → total (left_over (sides v.structure) u) ks + t.arcs ≤ total (left_over (sides v.structure) s) ks + w.arcs
     same_log D s u e q =
-        let le = total_le (left_over (sides v.structure) u) (left_over (sides v.structure) s) ks (λ k. subst (λ z. cond (is_forwarded z k) 0 (length (own (sides v.structure) k)) ≤ left_over (sides v.structure) s k) (sym e) (self (left_over (sides v.structure) s k))) in
+        let le = total_mono (left_over (sides v.structure) u) (left_over (sides v.structure) s) ks (λ k. subst (λ z. cond (is_forwarded z k) 0 (length (own (sides v.structure) k)) ≤ left_over (sides v.structure) s k) (sym e) (self (left_over (sides v.structure) s k))) in
         omega (arith, le, q)
       where
         self : (n : ℕ) → n ≤ n
@@ -188,23 +180,6 @@ forwarded_is (e ∷ log) k = go (nat_eq k e.from) (forwarded_is log k)
 
 weight_is : (v : Shown) (w : Contents) (log : List Forward) → HasLog v w log → (k : ℕ) → weight (sides v.structure) (state_of v w log) k ≡ weight_of v w k
 weight_is v w log h k = ap (λ b. cond b 0 (degree (both v w k))) (forwarded_is log k ∙ ap is_some (sym (h.table k)))
-
-pub total_ext : (f g : ℕ → ℕ) (ks : List ℕ) → ((k : ℕ) → f k ≡ g k) → total f ks ≡ total g ks
-total_ext f g [] h = refl
-total_ext f g (k ∷ ks) h = let r = total_ext f g ks h in let q = h k in omega (arith, r, q)
-
-pub upto_in : (n k : ℕ) → k < n → IsIn (upto n) k
-upto_in zero k h = absurd (omega (arith, h))
-upto_in (suc n) k h = elim (cases_eq n k) [ inl e ↦ inl e | inr ne ↦ inr (upto_in n k (omega arith)) ]
-
-pub upto_below : (n k : ℕ) → IsIn (upto n) k → k < n
-upto_below zero k h = absurd h
-upto_below (suc n) k (inl e) = omega arith
-upto_below (suc n) k (inr h) = let r = upto_below n k h in omega (arith, r)
-
-pub upto_once : (n : ℕ) → NoRepeats (upto n)
-upto_once zero = tt
-upto_once (suc n) = ((λ h. let r = upto_below n n h in absurd (omega (arith, r))), upto_once n)
 
 pub falls_on : (v : Shown) (w t : Contents) (a b : Target) (l : ℕ) (r target : Value) (ks : List ℕ) (i : IsRunning v (with_pair w a b) l r target ks) → Outcome v w t i.log a b true
     → total (weight_of v t) (upto (2 * length v.structure)) + length t.pairs < total (weight_of v (with_pair w a b)) (upto (2 * length v.structure)) + length (with_pair w a b).pairs

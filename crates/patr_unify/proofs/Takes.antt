@@ -1,5 +1,6 @@
 -- All own arcs of a place are given to another.
 use Rattle.std.proofs.Common.{◌≡◌, ◌≢◌, ℕ, zero, suc, ◌+◌, ◌<◌, ◌≤◌, Bool, true, false, cond, nat_eq, ◌||◌, Option, Some, None, List, [], ◌∷◌, ◌++◌, length, length-append, get_or, drop, refl, sym, ap, ◌∙◌, subst, arith, eq-eqb, ne_eqb, append_assoc, add-one}
+use Rattle.patr_lists.proofs.Conditions.{or_left, or_right}
 use Rattle.patr_model.specs.Structure.{Value, Arc, Arcs, along, HasDistinct}
 use Rattle.patr_marks.specs.Machine.{Pair, own, has_attribute, pair_with, matches, missing}
 use Rattle.patr_marks.specs.Sides.{shift, shifted, sides}
@@ -45,14 +46,6 @@ along_insert : (es fs : Arcs) (e : Arc) (a : ℕ) → e.attribute ≢ a → alon
 along_insert [] fs e a n = ap (λ b. cond b (Some e.to) (along fs a)) (ne_eqb e.attribute a n)
 along_insert (d ∷ es) fs e a n = ap (λ o. cond (nat_eq d.attribute a) (Some d.to) o) (along_insert es fs e a n)
 
-or_true : (b c : Bool) → c ≡ true → (b || c) ≡ true
-or_true true c h = refl
-or_true false c h = h
-
-or_left : (b c : Bool) → b ≡ true → (b || c) ≡ true
-or_left true c h = refl
-or_left false c h = cc
-
 or_false : (b c : Bool) → b ≡ false → (b || c) ≡ c
 or_false true c h = cc
 or_false false c h = refl
@@ -77,17 +70,17 @@ more_step e rest later bs fs true o h q =
 more_step e rest later bs fs false None h q =
     ap (λ b. rev_onto (cond b (missing rest later bs) (e ∷ missing rest later bs)) fs) (sym (or_false (has_attribute (rest ++ later) e.attribute) (has_attribute bs e.attribute) h ∙ none_has bs e.attribute q))
 more_step e rest later bs fs false (Some y) h q =
-    ap (λ b. rev_onto (cond b (missing rest later bs) (e ∷ missing rest later bs)) fs) (sym (or_true (has_attribute (rest ++ later) e.attribute) (has_attribute bs e.attribute) (some_has bs e.attribute y q)))
+    ap (λ b. rev_onto (cond b (missing rest later bs) (e ∷ missing rest later bs)) fs) (sym (or_right (has_attribute (rest ++ later) e.attribute) (has_attribute bs e.attribute) (some_has bs e.attribute y q)))
 
 -- and what is found then
 finds_step : (es fs bs later rest : Arcs) (e : Arc) (l : Bool) (o : Option Value) → has_attribute (rest ++ later) e.attribute ≡ l
     → ((a : ℕ) → has_attribute ((e ∷ rest) ++ later) a ≡ true → along (es ++ fs) a ≡ along bs a)
     → (a : ℕ) → has_attribute (rest ++ later) a ≡ true → along (es ++ one_more l o e.attribute e.to fs) a ≡ along bs a
-finds_step es fs bs later rest e true o h f a i = f a (or_true (nat_eq e.attribute a) (has_attribute (rest ++ later) a) i)
-finds_step es fs bs later rest e false (Some y) h f a i = f a (or_true (nat_eq e.attribute a) (has_attribute (rest ++ later) a) i)
+finds_step es fs bs later rest e true o h f a i = f a (or_right (nat_eq e.attribute a) (has_attribute (rest ++ later) a) i)
+finds_step es fs bs later rest e false (Some y) h f a i = f a (or_right (nat_eq e.attribute a) (has_attribute (rest ++ later) a) i)
 finds_step es fs bs later rest e false None h f a i =
     let ne : e.attribute ≢ a = λ q. let bad : true ≡ false = sym i ∙ (ap (has_attribute (rest ++ later)) (sym q) ∙ h) in cc in
-    along_insert es fs e a ne ∙ f a (or_true (nat_eq e.attribute a) (has_attribute (rest ++ later) a) i)
+    along_insert es fs e a ne ∙ f a (or_right (nat_eq e.attribute a) (has_attribute (rest ++ later) a) i)
 
 -- one more own arc is given
 pub taken_step : (v : Shown) (w t u : Contents) (A B : ℕ) (e : Arc) (rest : Arcs) → A ≢ B → along rest e.attribute ≡ None → IsTaken v w t A B (e ∷ rest) → IsGiven v t u A B e.attribute e.to → IsTaken v w u A B rest

@@ -1,13 +1,15 @@
 -- The walk over the ends that the left side reaches, step by step.
 use Rattle.std.proofs.Common.{◌≡◌, ◌≢◌, ℕ, ◌+◌, ◌*◌, ◌<◌, ◌≤◌, ◌⊎◌, inl, inr, Option, Some, None, MatchOption, List, [], ◌∷◌, ◌++◌, length, length-append, refl, sym, ap, ◌∙◌, subst, arith}
 use Rattle.std.proofs.lemmas.Bool.{cases_eq}
+use Rattle.patr_lists.proofs.Totals.{total_change, upto_once, upto_in, total_ext}
+use Rattle.patr_lists.proofs.Members.{no_longer}
+use Rattle.patr_lists.specs.Members.{IsIn}
+use Rattle.patr_lists.specs.Numbers.{total, upto}
 use Rattle.patr_model.specs.Structure.{Value, Atom, Node}
-use Rattle.patr_marks.specs.Machine.{Forward, Has, IsIn, arcs_at, ends, own, total}
+use Rattle.patr_marks.specs.Machine.{Forward, Has, arcs_at, ends, own}
 use Rattle.patr_marks.specs.Quotient.{Below}
 use Rattle.patr_marks.specs.Sides.{sides}
 use Rattle.patr_marks.specs.Walk.{IsWalk, Leads, ReachedIn}
-use Rattle.patr_marks.proofs.Bounds.{stack_room}
-use Rattle.patr_marks.proofs.Room.{total_change}
 use Rattle.patr_marks.proofs.Walk.{walk_starts, walk_enters, walk_leaves, walk_done}
 use Rattle.patr_arena.specs.Shown.{Shown, IsShown, IsHeld}
 use Rattle.patr_scratch.specs.declared.Place.{Place}
@@ -18,11 +20,10 @@ use Rattle.patr_scratch.specs.Contents.{Contents}
 use Rattle.patr_unify.specs.Reading.{AreHeld, LinksHeld, OptionIsHeld, IsEndOf, added_of, forward_of, key, marks_in, slot_of, state_of, value_at, option_at}
 use Rattle.patr_unify.specs.Reading as reading
 use Rattle.patr_unify.specs.Merging.{both}
-use Rattle.patr_unify.specs.Stepping.{HasLog, upto}
+use Rattle.patr_unify.specs.Stepping.{HasLog}
 use Rattle.patr_unify.specs.declared.cursor.Cursor.{Cursor}
 use Rattle.patr_unify.specs.Walking.{AllEnd, ArePaused, HasEntered, HasLeft, HasStack, HasVisit, HasVisitRoom, HasWalked, IsAtPlace, IsLedBack, IsOther, IsStill, IsTurned, IsVisited, IsWalkable, IsWalkedOff, LeadsBack, VisitsHeld, cursors_of, end_value, first, stack_of, to_visit, unseen_of, visit_of}
 use Rattle.patr_unify.proofs.Keys.{node_one}
-use Rattle.patr_unify.proofs.Running.{total_ext, upto_in, upto_once}
 use Rattle.patr_unify.proofs.Outcomes.{end_by_log, end_is, key_below, log_ends}
 use Rattle.patr_unify.proofs.Pauses.{none_paused, onward_visited, pairs_length, paused_popped, paused_starts, stack_length, stack_popped, stack_pushed, went_back, went_down}
 
@@ -119,7 +120,7 @@ module _ (v : Shown) (w t : Contents) (l : ℕ) (i : IsWalkable v w l) (top : Pl
   pub has_room : HasVisitRoom v t (key v top)
   has_room a x p h o n =
       let next = longer a x p h o n in
-      let size = stack_room (key v p ∷ key v top ∷ stack_of v t.visits) i.ks next.once (λ k m. let r = next.reached k (inr m) in i.reached at.has.root r.0 k at.has.from r.1) in
+      let size = no_longer (key v p ∷ key v top ∷ stack_of v t.visits) i.ks next.once (λ k m. let r = next.reached k (inr m) in i.reached at.has.root r.0 k at.has.from r.1) in
       let stack = stack_length v t.visits in
       let pairs = pairs_length v t visit.Left (stack_of v t.visits) t.pairs at.paused.1 in
       (omega (arith, size, stack, i.room, at.has.still.visit_room), omega (arith, size, pairs, i.pair_room, at.has.still.pair_room))

@@ -2,13 +2,16 @@
 use Rattle.std.proofs.Common.{◌≡◌, ℕ, suc, ◌+◌, ◌<◌, ◌⊎◌, inl, inr, Option, Some, None, List, [], ◌∷◌, ◌++◌, length, refl, sym, ap, ◌∙◌, subst, arith}
 use Rattle.std.specs.List.{sum}
 use Rattle.std.proofs.lemmas.List.{get_or_append_left, take_all}
+use Rattle.patr_lists.proofs.Places.{below_or_behind}
+use Rattle.patr_lists.specs.Members.{NoRepeats, IsIn}
+use Rattle.patr_lists.specs.Numbers.{total}
 use Rattle.patr_model.specs.Structure.{Value, Atom, Node, Arc, Arcs, Structure, IsBelow, IsValue, arcs_of}
-use Rattle.patr_marks.specs.Machine.{Has, IsIn, NoRepeats, own, total}
+use Rattle.patr_marks.specs.Machine.{Has, own}
 use Rattle.patr_marks.specs.Quotient.{Below}
 use Rattle.patr_marks.specs.Settled.{IsCopy, IsSparing, base, through, IsFinal, follow}
 use Rattle.patr_marks.specs.Sides.{IsSide, shifted, sides}
 use Rattle.patr_marks.proofs.Copy.{base_left, base_shift}
-use Rattle.patr_marks.proofs.Sides.{below_or_behind, own_left, own_right}
+use Rattle.patr_marks.proofs.Sides.{own_left, own_right}
 use Rattle.patr_arena.specs.Blocks.{OldIsHeld}
 use Rattle.patr_arena.specs.Shown.{Shown, IsShown, IsHeld, number_of}
 use Rattle.patr_arena.specs.declared.value.Feature.{Feature}

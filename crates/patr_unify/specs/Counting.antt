@@ -1,20 +1,15 @@
 -- The count of what a value reaches.
---     Waits          a value is in the list
 --     IsReaching     a list of nodes that are reached, where what their arcs lead to is in it or waits
 --     IsCounting     the same of a set of numbers and a list of values
 --     IsLookedAt     what a look at one value leaves
 use Rattle.std.specs.Prelude.{◌≡◌, ℕ, ◌+◌, ◌≤◌, ◌⊎◌, true, cond, nat_eq, Some, List, [], ◌∷◌, ◌++◌, length, map}
 use Rattle.std.specs.HashSet.{HashSet, contains, hash_set_len}
+use Rattle.patr_lists.specs.Members.{NoRepeats, IsIn}
+use Rattle.patr_lists.specs.Numbers.{total, upto}
 use Rattle.patr_model.specs.Structure.{Value, Atom, Node, Arcs, Structure, arc, at, IsReached}
-use Rattle.patr_marks.specs.Machine.{IsIn, NoRepeats, own, total}
+use Rattle.patr_marks.specs.Machine.{own}
 use Rattle.patr_arena.specs.declared.value.Value as its
 use Rattle.patr_arena.specs.Shown.{Shown, ValueIsHeld, value_of}
-use Rattle.patr_unify.specs.Stepping.{upto}
-
--- the value is in the list
-abbrev pub Waits : List Value → Value → Type 0
-Waits [] y = ⊥
-Waits (x ∷ xs) y = (x ≡ y) ⊎ Waits xs y
 
 -- what the arcs lead to
 abbrev pub targets : Arcs → List Value
@@ -32,13 +27,13 @@ ValuesHeld v (x ∷ xs) = ValueIsHeld v x × ValuesHeld v xs
 -- an atom, or a node that is in the one list or in the other
 abbrev pub IsNoted : List ℕ → List Value → Value → Type 0
 IsNoted ks ws (Atom c) = Unit {0}
-IsNoted ks ws (Node k) = IsIn ks k ⊎ Waits ws (Node k)
+IsNoted ks ws (Node k) = IsIn ks k ⊎ IsIn ws (Node k)
 
 -- nodes that are reached, each once; what their arcs lead to is in the list or waits
 pub record IsReaching (S : Structure) (x : Value) (ks : List ℕ) (ws : List Value) : Type 0 where
   pub once : NoRepeats ks
   pub reached : (k : ℕ) → IsIn ks k → IsReached S x k
-  pub waits : (y : Value) → Waits ws y → (p : List ℕ) × (at S x p ≡ Some y)
+  pub waits : (y : Value) → IsIn ws y → (p : List ℕ) × (at S x p ≡ Some y)
   pub first : IsNoted ks ws x
   pub closed : (k a : ℕ) (y : Value) → IsIn ks k → arc S (Node k) a ≡ Some y → IsNoted ks ws y
 

@@ -5,8 +5,10 @@
 --     IsEndIn           an end that arcs of ends lead to
 --     IsSettledFor      the scratch after a decision that found no fault
 use Rattle.std.specs.Prelude.{◌≡◌, ℕ, zero, suc, ◌+◌, Some, None, List, [], length}
+use Rattle.patr_lists.specs.Members.{NoRepeats, IsIn}
+use Rattle.patr_lists.specs.Numbers.{total}
 use Rattle.patr_model.specs.Structure.{Value, Node, Structure, IsReached, IsValue, at}
-use Rattle.patr_marks.specs.Machine.{Has, IsIn, NoRepeats, own, total}
+use Rattle.patr_marks.specs.Machine.{Has, own}
 use Rattle.patr_marks.specs.Settled.{IsSettled, IsTidy, Marks}
 use Rattle.patr_arena.specs.Shown.{Shown}
 use Rattle.patr_scratch.specs.declared.Visit.TheVariants as visit

@@ -1,7 +1,9 @@
 -- What is done with one pair.
-use Rattle.std.specs.Prelude.{◌≡◌, ◌≢◌, ℕ, suc, ◌+◌, ◌*◌, ◌<◌, ◌≤◌, ◌⊎◌, Bool, true, false, cond, zero, Some, None, List, [], ◌∷◌, ◌++◌, length}
+use Rattle.std.specs.Prelude.{◌≡◌, ◌≢◌, ℕ, suc, ◌+◌, ◌*◌, ◌<◌, ◌≤◌, ◌⊎◌, Bool, true, false, cond, Some, None, List, [], ◌∷◌, ◌++◌, length}
+use Rattle.patr_lists.specs.Members.{NoRepeats, IsIn}
+use Rattle.patr_lists.specs.Numbers.{total}
 use Rattle.patr_model.specs.Structure.{Value, Node}
-use Rattle.patr_marks.specs.Machine.{Forward, Pair, State, Has, IsLog, Ends, IsIn, NoRepeats, IsMerge, IsBind, IsSkip, IsClash, own, weight, left_over, total, degree, lookup}
+use Rattle.patr_marks.specs.Machine.{Forward, Pair, State, Has, IsLog, Ends, IsMerge, IsBind, IsSkip, IsClash, own, weight, left_over, degree, lookup}
 use Rattle.patr_marks.specs.Sides.{sides, IsSide}
 use Rattle.patr_marks.specs.Run.{IsRun}
 use Rattle.patr_unify.specs.Following.{is_some}
@@ -90,8 +92,3 @@ pub record IsRunning (v : Shown) (w : Contents) (l : ℕ) (r : Value) (target : 
 -- the attributes of a place that was not forwarded, as the scratch tells them
 abbrev pub weight_of : Shown → Contents → ℕ → ℕ
 weight_of v w k = cond (is_some (forward_of v w k)) 0 (degree (both v w k))
-
--- the numbers below n
-abbrev pub upto : ℕ → List ℕ
-upto zero = []
-upto (suc n) = n ∷ upto n

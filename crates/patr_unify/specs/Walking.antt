@@ -10,8 +10,9 @@
 --     HasWalked           what the walk has entered and left
 --     IsWalked            what it comes to
 use Rattle.std.specs.Prelude.{◌≡◌, ◌≢◌, ◌≤◌, ◌+◌, ◌⊎◌, ℕ, Bool, true, false, Option, Some, None, List, [], ◌∷◌, ◌++◌, length, map, reverse, drop, ◌<◌, ◌^◌}
+use Rattle.patr_lists.specs.Members.{IsIn}
 use Rattle.patr_model.specs.Structure.{Value, Atom, Node, Arcs}
-use Rattle.patr_marks.specs.Machine.{Forward, Has, IsIn, ends, own}
+use Rattle.patr_marks.specs.Machine.{Forward, Has, ends, own}
 use Rattle.patr_marks.specs.Quotient.{Below, IsOrder}
 use Rattle.patr_marks.specs.Settled.{follow, IsFinal}
 use Rattle.patr_marks.specs.Sides.{sides}

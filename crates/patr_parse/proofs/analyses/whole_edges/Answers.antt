@@ -1,8 +1,8 @@
 use Rattle.std.proofs.Common.{◌≡◌, ◌<◌, ◌++◌, ◌∷◌, [], Bool, List, map, take, ◌+◌, refl, sym, ap, ◌∙◌, subst}
 use Rattle.std.specs.List.{AllByRecursion}
+use Rattle.patr_lists.proofs.Alls.{all_more}
 use Rattle.patr_lists.specs.Numbers.{places}
 use Rattle.patr_parse.proofs.Names.{view_of, Edge, AreEdges, Analysis, HasKey, edge_of, is_whole}
-use Rattle.patr_parse.proofs.Members.{all_more}
 use Rattle.patr_parse.proofs.Gathered.{found_more, found_same}
 use Rattle.patr_parse.proofs.analyses.whole_edges.Goals as goal
 use Rattle.patr_parse.proofs.analyses.whole_edges.Goals.{then-is_whole+in_ok-key+in_ok-push, else-is_whole}

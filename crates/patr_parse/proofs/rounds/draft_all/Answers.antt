@@ -1,7 +1,9 @@
 use Rattle.std.proofs.Common.{◌≡◌, ◌<◌, ◌+◌, ◌∙◌, [], true, false, length, sym, ap, subst, arith, rules}
+use Rattle.patr_model.proofs.Bare.{not_true}
+use Rattle.patr_lexicon.proofs.Trims.{not_not}
 use Rattle.patr_parse.proofs.Names.{rules_of, IsRoundAt}
 use Rattle.patr_parse.specs.Drafts.{drafts_of, is_stop}
-use Rattle.patr_parse.proofs.Drafted.{not_false, not_true, round_begins, round_full, round_large, round_more}
+use Rattle.patr_parse.proofs.Drafted.{round_begins, round_full, round_large, round_more}
 use Rattle.patr_parse.proofs.rounds.draft_all.Goals as goal
 
 pub loop-task-init : goal.loop-task-init
@@ -20,7 +22,7 @@ pub returns-then-not-branch-clause-more : goal.returns-then-not-branch-clause-mo
 returns-then-not-branch-clause-more g c = λ ws h.
     let w = c.args.work.now in
     let stopped : c.in_ok-gather.field-0 ≡ false = search rules in
-    let stop : is_stop c.in_ok-outcome.outcome ≡ true = not_false (is_stop c.in_ok-outcome.outcome) (sym c.in_ok-gather.ensures.goes_on ∙ stopped) in
+    let stop : is_stop c.in_ok-outcome.outcome ≡ true = not_not (is_stop c.in_ok-outcome.outcome) (sym c.in_ok-gather.ensures.goes_on ∙ stopped) in
     round_large w.library.now (g.N.Nodes.shown w.nodes.now) w.chart.now w.limit w.worked c.args.local.now.decided (w.worked + c.loop-task.task) c.loop-task.local.decided c.loop-task.made.items c.loop-task.invariant ws h (c.in_ok-outcome.ensures.large stop)
 
 pub returns-then-len-room-clause-more : goal.returns-then-len-room-clause-more

@@ -1,7 +1,7 @@
 use Rattle.std.proofs.Common.{◌≡◌, ◌∙◌, ◌++◌, ◌∷◌, [], length, length-append, refl, sym, ap, subst, rules, arith, append_assoc, append-nil}
 use Rattle.std.specs.Vec.Iter.{into_iter_items, into_iter_len}
+use Rattle.std.proofs.lemmas.List.{nil_from_length}
 use Rattle.patr_parse.proofs.Names.{sentence_of, IsEdgeAfter, ArePlaced}
-use Rattle.patr_parse.proofs.Members.{nothing_left}
 use Rattle.patr_parse.proofs.Growing.{extends_same}
 use Rattle.patr_parse.proofs.Drafted.{next_draft, placed_more}
 use Rattle.patr_parse.proofs.rounds.push_all.Goals as goal
@@ -40,6 +40,6 @@ loop-draft-preserved c =
 pub returns-clause-placed : goal.returns-clause-placed
 returns-clause-placed c =
     let at = c.loop-draft in
-    let empty : into_iter_items at.draft-iterator ≡ [] = nothing_left _ (sym at.invariant.long ∙ c.in-None.ensures.steps.0) in
+    let empty : into_iter_items at.draft-iterator ≡ [] = nil_from_length _ (sym at.invariant.long ∙ c.in-None.ensures.steps.0) in
     let all = sym (append-nil at.yielded) ∙ rw empty at at.invariant.whole ∙ c.into_iter-draft-iterator.ensures.into_iter_gives.0 in
     subst (λ l. ArePlaced (sentence_of c.args.arena.now) (sentence_of at.arena) l c.args.chart.now.edges at.chart.edges) all at.invariant.placed

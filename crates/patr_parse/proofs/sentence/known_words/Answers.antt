@@ -1,9 +1,10 @@
 use Rattle.std.proofs.Common.{◌≡◌, ◌+◌, ◌++◌, ◌∷◌, [], ℕ, suc, List, map, take, get_or, Bor, sym, ap, ◌∙◌, subst, arith}
 use Rattle.std.specs.List.{AllByRecursion}
 use Rattle.std.proofs.lemmas.List.{length-map}
+use Rattle.std.proofs.Math.Seq.{take-length}
 use Rattle.patr_parse.proofs.Names.{Id, ids, AreKnownTo}
 use Rattle.patr_parse.specs.Sentences.{AreNumbers, IsKnown, IsFirstUnknown}
-use Rattle.patr_parse.proofs.KnownWords.{known_more, first_unknown, word_at, take_words}
+use Rattle.patr_parse.proofs.KnownWords.{known_more, first_unknown, word_at}
 use Rattle.patr_parse.proofs.sentence.known_words.Goals as goal
 
 pub loop-place-preserved : goal.loop-place-preserved
@@ -35,7 +36,7 @@ returns-clause-numbers c =
     let s = c.args.library.now in
     let table = c.args.symbols.now in
     let ws : List (List ℕ) = map (λ (w : Bor (List ℕ)). w.now) c.args.words.now in
-    let whole : take c.loop-place.place ws ≡ ws = ap (λ n. take n ws) (omega (arith, length-map c.args.words.now (λ (w : Bor (List ℕ)). w.now), c.loop-place-test.false, c.loop-place.auto.place-end)) ∙ take_words ws in
+    let whole : take c.loop-place.place ws ≡ ws = ap (λ n. take n ws) (omega (arith, length-map c.args.words.now (λ (w : Bor (List ℕ)). w.now), c.loop-place-test.false, c.loop-place.auto.place-end)) ∙ take-length ws in
     record {
       short = omega (arith, length-map c.args.words.now (λ (w : Bor (List ℕ)). w.now), c.requires.short);
       known = subst (AllByRecursion (IsKnown s table)) whole c.loop-place.invariant.known;

@@ -1,10 +1,9 @@
 use Rattle.std.proofs.Common.{◌≡◌, ◌<◌, ◌+◌, ◌*◌, ℕ, List, length}
+use Rattle.patr_lists.specs.Numbers.{total, upto}
 use Rattle.patr_model.specs.Structure.{Node, Value}
-use Rattle.patr_marks.specs.Machine.{total}
 use Rattle.patr_scratch.specs.Contents.{KeepsRoom}
 use Rattle.patr_unify.specs.Deciding.{IsSettledFor}
 use Rattle.patr_unify.specs.Reading.{key}
-use Rattle.patr_unify.specs.Stepping.{upto}
 use Rattle.patr_scratch.specs.declared.Visit.TheVariants as visit
 use Rattle.patr_unify.specs.Walking.{ArePaused, VisitsHeld, cursors_of, end_value, stack_of}
 use Rattle.patr_unify.proofs.Worked.{HasCopied}

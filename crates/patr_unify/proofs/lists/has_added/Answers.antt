@@ -1,7 +1,8 @@
 use Rattle.std.proofs.Common.{◌∙◌, ap, sym, subst}
+use Rattle.patr_scratch.proofs.Linking.{after_first}
 use Rattle.patr_scratch.specs.Contents.{marks, after, EndsOrHas}
 use Rattle.patr_unify.specs.Reading.{has_link}
-use Rattle.patr_unify.proofs.Keys.{after_first, first_has}
+use Rattle.patr_unify.proofs.Keys.{first_has}
 use Rattle.patr_unify.proofs.lists.has_added.Goals as goal
 
 pub listed-requires-clause-cell : goal.listed-requires-clause-cell

@@ -1,8 +1,8 @@
 use Rattle.std.proofs.Common.{rules, ◌+◌, ◌*◌, ◌<◌, ℕ, Bool, List, length, sym, subst}
+use Rattle.patr_lists.specs.Numbers.{total, upto}
 use Rattle.patr_model.specs.Structure.{Value}
-use Rattle.patr_marks.specs.Machine.{total}
 use Rattle.patr_scratch.specs.Contents.{Contents}
-use Rattle.patr_unify.specs.Stepping.{Covers, IsRunning, Outcome, weight_of, upto}
+use Rattle.patr_unify.specs.Stepping.{Covers, IsRunning, Outcome, weight_of}
 use Rattle.patr_unify.proofs.Running.{with_pair, was_pushed, pair_held, still_held, log_there, same_log, running_on, falls_on, clash_refutes}
 use Rattle.patr_unify.proofs.unify_pair.unify_pairs.Given.{Over}
 use Rattle.patr_unify.proofs.unify_pair.unify_pairs.Goals.{In-Some}

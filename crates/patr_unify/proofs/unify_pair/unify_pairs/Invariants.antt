@@ -1,8 +1,8 @@
 use Rattle.std.proofs.Common.{ℕ, List, ◌+◌, ◌*◌, length}
+use Rattle.patr_lists.specs.Numbers.{total, upto}
 use Rattle.patr_model.specs.Structure.{Value}
-use Rattle.patr_marks.specs.Machine.{total}
 use Rattle.patr_scratch.specs.Contents.{KeepsRoom}
-use Rattle.patr_unify.specs.Stepping.{Covers, IsRunning, weight_of, upto}
+use Rattle.patr_unify.specs.Stepping.{Covers, IsRunning, weight_of}
 use Rattle.patr_unify.proofs.unify_pair.unify_pairs.Given as goal
 
 abbrev pub invariant-loop-a : goal.invariant-loop-a

@@ -1,8 +1,7 @@
 use Rattle.std.proofs.Common.{◌+◌, ◌*◌, length}
-use Rattle.patr_marks.specs.Machine.{total}
+use Rattle.patr_lists.specs.Numbers.{total, upto}
 use Rattle.patr_arena.specs.Shown.{number_of}
 use Rattle.patr_scratch.specs.Contents.{KeepsRoom}
-use Rattle.patr_unify.specs.Stepping.{upto}
 use Rattle.patr_unify.specs.Walking.{HasWalked, IsWalkable, unseen_of}
 use Rattle.patr_unify.proofs.walk.is_acyclic.Given as goal
 
