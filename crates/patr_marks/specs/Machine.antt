@@ -4,7 +4,7 @@
 --     IsMerge, IsBind, IsSkip, IsClash   what becomes of a state as one pair is worked off
 --     IsMarked, IsWithin, IsForced       what holds at each moment
 -- D is one structure that holds both sides, the right one behind the left one.
-use Rattle.std.specs.Prelude.{◌≡◌, ◌≢◌, ℕ, zero, suc, ◌+◌, ◌⊎◌, Bool, false, cond, ◌||◌, List, [], ◌∷◌, ◌++◌, length, Option, Some, None, nat_eq}
+use Rattle.std.specs.Prelude.{◌≡◌, ◌≢◌, ℕ, zero, suc, ◌⊎◌, Bool, false, cond, ◌||◌, List, [], ◌∷◌, ◌++◌, length, Option, Some, None, nat_eq}
 use Rattle.patr_model.specs.Structure.{Value, Atom, Node, Arcs, Structure, along, arcs_of}
 
 -- a forward: the place that it stands at, and where it leads

@@ -1,4 +1,4 @@
-use Rattle.std.proofs.Common.{◌∙◌, ap, sym, length, arith, rules}
+use Rattle.std.proofs.Common.{◌∙◌, ap, length, arith, rules}
 use Rattle.std.proofs.lemmas.List.{length-map}
 use Rattle.patr_lists.specs.Tables.{with_number}
 use Rattle.patr_lists.proofs.Tables.{put_numbers, keep_numbers}
