@@ -4,7 +4,7 @@ use Rattle.patr_lists.proofs.Alls.{all_at}
 use Rattle.patr_lists.proofs.Members.{in_cases, in_left, in_right, once_append}
 use Rattle.patr_lists.specs.Numbers.{places}
 use Rattle.patr_lists.specs.Members.{NoRepeats, IsIn}
-use Rattle.patr_parse.proofs.Names.{Value, Structure, Rules, Derivation, Leaf, Begin, IsSolvable, IsLeastValue, IsNoPair, some_inj, variant_steps, places_pass, passes_placed, RuleItem, EntryItem, Stored, IsStored, IsRuleItem, rules_of, root_of, is_of_word, Has, begun_at, leaves_at, leaves_from}
+use Rattle.patr_parse.proofs.Names.{Value, Structure, Rules, Derivation, Leaf, Begin, IsSolvable, IsLeastValue, IsNoPair, some_inj, variant_steps, places_pass, passes_placed, RuleItem, EntryItem, Stored, IsStored, IsRuleItem, rules_of, root_of, is_of_word, begun_at, leaves_at, leaves_from}
 use Rattle.patr_model.specs.Derivation.{start}
 use Rattle.patr_chart.proofs.Passing.{places_rise}
 use Rattle.patr_library.specs.Stored.{Rises, IsEntryItem, is_of_mother}
@@ -14,14 +14,14 @@ use Rattle.patr_parse.proofs.Numbers.{Rising, rising_of, has_contains, contains_
 -- ---- the members of a list that pass a test
 
 module _ {X : Type 0} (test : X → Bool) (xs : List X) where
-  pub placed_is : (n : ℕ) → Has (places test 0 xs) n → (x : X) × (slice_get xs n ≡ Some x) × (test x ≡ true)
+  pub placed_is : (n : ℕ) → IsIn (places test 0 xs) n → (x : X) × (slice_get xs n ≡ Some x) × (test x ≡ true)
   placed_is n h =
       let p = places_pass test 0 xs n (has_contains (places test 0 xs) n h) in
       let same : p.0 ≡ n = sym (p.2 ∙ zero-add p.0) in
       (p.1, ap (λ k. slice_get xs k) (sym same) ∙ p.3, p.4)
 
-  pub is_placed : (n : ℕ) (x : X) → slice_get xs n ≡ Some x → test x ≡ true → Has (places test 0 xs) n
-  is_placed n x at t = subst (λ k. Has (places test 0 xs) k) (zero-add n) (contains_has (places test 0 xs) (0 + n) (passes_placed test 0 xs n x at t))
+  pub is_placed : (n : ℕ) (x : X) → slice_get xs n ≡ Some x → test x ≡ true → IsIn (places test 0 xs) n
+  is_placed n x at t = subst (λ k. IsIn (places test 0 xs) k) (zero-add n) (contains_has (places test 0 xs) (0 + n) (passes_placed test 0 xs n x at t))
 
   pub placed_rise : Rising 0 (places test 0 xs)
   placed_rise = rising_of 0 (places test 0 xs) (λ h. omega arith) (places_rise test 0 xs)
@@ -108,7 +108,7 @@ module _ (s : Stored) (stored : IsStored s) where
     pub mother : item.mother.0 ≡ c
     pub is : t ≡ Begin item.rule item.variant i
 
-  begun_number : (c i n : ℕ) → Has (places (is_of_mother c) 0 s.rules) n → IsBegun c i (begun s i n)
+  begun_number : (c i n : ℕ) → IsIn (places (is_of_mother c) 0 s.rules) n → IsBegun c i (begun s i n)
   begun_number c i n h =
       let p = placed_is (is_of_mother c) s.rules n h in
       record { number = n; item = p.0; there = p.1; mother = eqb-true p.0.mother.0 c p.2; is = ap (λ o. begun_of o i) p.1 }
@@ -135,7 +135,7 @@ module _ (s : Stored) (stored : IsStored s) where
       same_begin : (r k q l i : ℕ) → Begin r k i ≡ Begin q l i → (r ≡ q) × (k ≡ l)
       same_begin r k q l i e = (cc, cc)
 
-      placed_there : (c i n : ℕ) (h : Has (places (is_of_mother c) 0 s.rules) n) → slice_get s.rules n ≡ Some (begun_number c i n h).item
+      placed_there : (c i n : ℕ) (h : IsIn (places (is_of_mother c) 0 s.rules) n) → slice_get s.rules n ≡ Some (begun_number c i n h).item
       placed_there c i n h = (placed_is (is_of_mother c) s.rules n h).1
 
   pub no_pair_begun : (c i : ℕ) (t : Derivation) → IsIn (begun_at s c i) t → IsNoPair t
@@ -149,7 +149,7 @@ module _ (s : Stored) (stored : IsStored s) where
     pub word : is_of_word s.lexicon w item ≡ true
     pub is : t ≡ Leaf item.entry item.variant i (suc i)
 
-  leaf_number : (w i n : ℕ) → Has (places (is_of_word s.lexicon w) 0 s.entries) n → IsLeaf w i (leaf s i n)
+  leaf_number : (w i n : ℕ) → IsIn (places (is_of_word s.lexicon w) 0 s.entries) n → IsLeaf w i (leaf s i n)
   leaf_number w i n h =
       let p = placed_is (is_of_word s.lexicon w) s.entries n h in
       record { number = n; item = p.0; there = p.1; word = p.2; is = ap (λ o. leaf_of o i) p.1 }

@@ -1,6 +1,6 @@
 -- What many proofs here name of the crates below.
-pub use Rattle.patr_lists.specs.Numbers.{places}
-pub use Rattle.patr_lists.specs.Members.{NoRepeats}
+pub use Rattle.patr_lists.specs.Numbers.{places, total}
+pub use Rattle.patr_lists.specs.Members.{IsIn, NoRepeats}
 pub use Rattle.patr_lists.proofs.Members.{in_cases}
 pub use Rattle.std.proofs.lemmas.Option.{slice_get_within}
 pub use Rattle.patr_arena.proofs.Addresses.{value_below}

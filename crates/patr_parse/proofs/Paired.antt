@@ -5,7 +5,7 @@ use Rattle.std.proofs.lemmas.Option.{slice_get_within}
 use Rattle.patr_lists.proofs.Members.{one_place}
 use Rattle.patr_lists.proofs.Tables.{places_length}
 use Rattle.patr_lists.specs.Members.{NoRepeats, IsIn}
-use Rattle.patr_parse.proofs.Names.{Rules, Derivation, Begin, HasPairs, Shown, Edge, is_passive, AreEdges, partners, derivations, KindsFit, Draft, AreMade, pair, Has}
+use Rattle.patr_parse.proofs.Names.{Rules, Derivation, Begin, HasPairs, Shown, Edge, is_passive, AreEdges, partners, derivations, KindsFit, Draft, AreMade, pair}
 use Rattle.patr_model.specs.Rounds.{ArePairs, ArePairsOf}
 use Rattle.patr_model.proofs.Rounds.{counted}
 use Rattle.patr_chart.specs.Charted.{is_partner, partners_of, tree}
@@ -29,7 +29,7 @@ module _ (g : Rules) (words : ℕ) (es : List Edge) (all : AreEdges words es) (f
     every = λ t h. let r = has_pair g words es all fit k e at b q t h in subst (λ u. IsIn (map (pair b es k) (partners es k)) u) r.2 (map_in (pair b es k) (partners es k) r.0 r.1);
   }
     where
-      below : (j : ℕ) → Has (partners es k) j → j < length es
+      below : (j : ℕ) → IsIn (partners es k) j → j < length es
       below j h = let p = is_partner_of es k e at j h in slice_get_within es j p.0 p.2
 
   -- a task adds the number of its partners

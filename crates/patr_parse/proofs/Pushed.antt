@@ -4,7 +4,7 @@ use Rattle.std.proofs.lemmas.List.{length-map, length-take-le, take_more, map-ap
 use Rattle.std.proofs.Math.Seq.{take-length}
 use Rattle.std.proofs.lemmas.Option.{slice_get_within}
 use Rattle.patr_lists.specs.Numbers.{places}
-use Rattle.patr_parse.proofs.Names.{Id, Rules, Derivation, Each, Shown, Edge, Stored, leaves_at, leaves_from, ArePushed, IsAloneEdge, HasOrigin, IsEdgeAfter, Has}
+use Rattle.patr_parse.proofs.Names.{Id, Rules, Derivation, Each, Shown, Edge, Stored, leaves_at, leaves_from, ArePushed, IsAloneEdge, HasOrigin, IsEdgeAfter, IsIn}
 use Rattle.patr_parse.proofs.Numbers.{has_at}
 use Rattle.patr_parse.proofs.Items.{placed_is}
 use Rattle.patr_parse.proofs.Added.{each_append, each_length}
@@ -56,7 +56,7 @@ module _ (g : Rules) (s : Stored) (v : Shown) where
 -- the numbers of members are below the length
 pub placed_below : {X : Type 0} (test : X → Bool) (xs : List X) (ns : List ℕ) → ns ≡ places test 0 xs → (i : ℕ) → i < length ns → get_or ns i 0 < length xs
 placed_below test xs ns is i here =
-    let p = placed_is test xs (get_or ns i 0) (subst (λ l. Has l (get_or ns i 0)) is (has_at ns i 0 here)) in
+    let p = placed_is test xs (get_or ns i 0) (subst (λ l. IsIn l (get_or ns i 0)) is (has_at ns i 0 here)) in
     slice_get_within xs (get_or ns i 0) p.0 p.1
 
 -- ---- the entries of the first so many words

@@ -6,7 +6,7 @@ use Rattle.patr_lists.proofs.Alls.{all_more}
 use Rattle.patr_lists.proofs.Places.{get_there}
 use Rattle.patr_lists.proofs.Members.{in_cases, in_left, in_right, in_one, once_append, one_place, in_front}
 use Rattle.patr_lists.specs.Members.{NoRepeats, IsIn}
-use Rattle.patr_parse.proofs.Names.{Rules, Derivation, Begin, Extend, IsSolvable, Shown, Edge, is_passive, AreEdges, partners, derived, derivations, KindsFit, from_length, ArePartners, pair, Has, made_by, Draft, AreMade, IsDraft}
+use Rattle.patr_parse.proofs.Names.{Rules, Derivation, Begin, Extend, IsSolvable, Shown, Edge, is_passive, AreEdges, partners, derived, derivations, KindsFit, from_length, ArePartners, pair, made_by, Draft, AreMade, IsDraft}
 use Rattle.patr_model.specs.Rounds.{IsAdjacent, IsPairOf, IsYield}
 use Rattle.patr_chart.specs.Charted.{tree}
 use Rattle.patr_chart.specs.Laws.{IsPartnerBefore}
@@ -33,7 +33,7 @@ module _ (g : Rules) (v : Shown) (words : ℕ) (es : List Edge) (limit : ℕ) (b
   made_nothing = record { once = tt; drafts = tt; pairs = λ t h. absurd h; every = λ j h. absurd h }
 
   -- one more pair was decided
-  pub made_more : NoRepeats (derivations es) → (js : List ℕ) (j : ℕ) (old new : List Draft) → ((i : ℕ) → Has js i → i < length es) → j < length es → (Has js j → ⊥)
+  pub made_more : NoRepeats (derivations es) → (js : List ℕ) (j : ℕ) (old new : List Draft) → ((i : ℕ) → IsIn js i → i < length es) → j < length es → (IsIn js j → ⊥)
       → AreMade g v words es limit b k js old → IsDecided g v words es limit (pair b es k j) old new true → AreMade g v words es limit b k (js ++ j ∷ []) new
   made_more once js j old new below here fresh m (inl d) = subst (AreMade g v words es limit b k (js ++ j ∷ [])) (sym d.0) (record {
     once = m.once;
@@ -49,7 +49,7 @@ module _ (g : Rules) (v : Shown) (words : ℕ) (es : List Edge) (limit : ℕ) (b
       let is : x ≡ pair b es k j = d.2.0 in
       let apart : (t : Derivation) → IsIn ts t → IsIn (x ∷ []) t → ⊥ = λ t h l.
       let p = m.pairs t h in
-      fresh (subst (λ n. Has js n) (pair_differs es once b k p.0 j (below p.0 p.1) here (sym p.2 ∙ (sym (in_one x t l) ∙ is))) p.1) in
+      fresh (subst (λ n. IsIn js n) (pair_differs es once b k p.0 j (below p.0 p.1) here (sym p.2 ∙ (sym (in_one x t l) ∙ is))) p.1) in
       record {
         once = subst NoRepeats (sym more) (once_append ts (x ∷ []) m.once ((λ h. h), tt) apart);
         drafts = subst (AreDrafts v words es limit) (sym d.1) (all_more (IsDraft v words es limit) old d.0 m.drafts d.2.2);
@@ -65,17 +65,17 @@ module _ (g : Rules) (v : Shown) (words : ℕ) (es : List Edge) (limit : ℕ) (b
 
 -- the partners of edge k
 module _ (es : List Edge) (k : ℕ) (e : Edge) (at : slice_get es k ≡ Some e) where
-  pub is_partner_of : (j : ℕ) → Has (partners es k) j → IsPartnerBefore es k e j
+  pub is_partner_of : (j : ℕ) → IsIn (partners es k) j → IsPartnerBefore es k e j
   is_partner_of j h = (has_partners es k e at).adjacent j (has_contains (partners es k) j h)
 
-  pub partner_has : (j : ℕ) → IsPartnerBefore es k e j → Has (partners es k) j
+  pub partner_has : (j : ℕ) → IsPartnerBefore es k e j → IsIn (partners es k) j
   partner_has j h = contains_has (partners es k) j ((has_partners es k e at).every j h)
 
   pub rising_partners : Rising 0 (partners es k)
   rising_partners = rising_of 0 (partners es k) (λ h. omega arith) (has_partners es k e at).rising
 
   -- the pair of edge k and a partner may be decided
-  pub pair_is_partners : (b : Bool) → is_passive e ≡ b → (j : ℕ) → Has (partners es k) j → ArePartners es (cond b j k) (cond b k j)
+  pub pair_is_partners : (b : Bool) → is_passive e ≡ b → (j : ℕ) → IsIn (partners es k) j → ArePartners es (cond b j k) (cond b k j)
   pair_is_partners b q j h = go b q (is_partner_of j h)
     where
       go : (b : Bool) → is_passive e ≡ b → IsPartnerBefore es k e j → ArePartners es (cond b j k) (cond b k j)
@@ -109,7 +109,7 @@ module _ (g : Rules) (words : ℕ) (es : List Edge) (all : AreEdges words es) (f
   pub adjacent : (a p : ℕ) → ArePartners es a p → IsAdjacent g (tree es a) (tree es p)
   adjacent a p h = (pairs_are words es all g fit a p h.0 h.1 h.2 h.3).0 h.4
 
-  pub of_pair : (b : Bool) → is_passive e ≡ b → (j : ℕ) (t : Derivation) → Has (partners es k) j → t ≡ pair b es k j → IsPairOf g (take k (derivations es)) (tree es k) t
+  pub of_pair : (b : Bool) → is_passive e ≡ b → (j : ℕ) (t : Derivation) → IsIn (partners es k) j → t ≡ pair b es k j → IsPairOf g (take k (derivations es)) (tree es k) t
   of_pair true q j t h is = (tree es j, tree es k, is, inr (refl, in_before j (is_partner_of es k e at j h).1), adjacent j k (pair_is_partners es k e at true q j h))
   of_pair false q j t h is = (tree es k, tree es j, is, inl (refl, in_before j (is_partner_of es k e at j h).1), adjacent k j (pair_is_partners es k e at false q j h))
 
@@ -121,7 +121,7 @@ module _ (g : Rules) (words : ℕ) (es : List Edge) (all : AreEdges words es) (f
 
   -- edge k is active
   every_active : (b : Bool) → is_passive e ≡ b → (t a p : Derivation) → t ≡ Extend a p
-      → a ≡ tree es k → IsIn (take k (derivations es)) p → IsAdjacent g a p → (j : ℕ) × Has (partners es k) j × (pair b es k j ≡ t)
+      → a ≡ tree es k → IsIn (take k (derivations es)) p → IsAdjacent g a p → (j : ℕ) × IsIn (partners es k) j × (pair b es k j ≡ t)
   every_active b q t a p is ha hp n =
       let j = earlier p hp in
       let near : IsAdjacent g (tree es k) (tree es j.0) = subst (λ u. IsAdjacent g u (tree es j.0)) ha (subst (λ u. IsAdjacent g a u) (sym j.2) n) in
@@ -132,7 +132,7 @@ module _ (g : Rules) (words : ℕ) (es : List Edge) (all : AreEdges words es) (f
 
   -- edge k is passive
   every_passive : (b : Bool) → is_passive e ≡ b → (t a p : Derivation) → t ≡ Extend a p
-      → p ≡ tree es k → IsIn (take k (derivations es)) a → IsAdjacent g a p → (j : ℕ) × Has (partners es k) j × (pair b es k j ≡ t)
+      → p ≡ tree es k → IsIn (take k (derivations es)) a → IsAdjacent g a p → (j : ℕ) × IsIn (partners es k) j × (pair b es k j ≡ t)
   every_passive b q t a p is hp ha n =
       let j = earlier a ha in
       let near : IsAdjacent g (tree es j.0) (tree es k) = subst (λ u. IsAdjacent g (tree es j.0) u) hp (subst (λ u. IsAdjacent g u p) (sym j.2) n) in
@@ -142,7 +142,7 @@ module _ (g : Rules) (words : ℕ) (es : List Edge) (all : AreEdges words es) (f
       (j.0, has, same)
 
   -- each pair of edge k is one with a partner
-  pub has_pair : (b : Bool) → is_passive e ≡ b → (t : Derivation) → IsPairOf g (take k (derivations es)) (tree es k) t → (j : ℕ) × Has (partners es k) j × (pair b es k j ≡ t)
+  pub has_pair : (b : Bool) → is_passive e ≡ b → (t : Derivation) → IsPairOf g (take k (derivations es)) (tree es k) t → (j : ℕ) × IsIn (partners es k) j × (pair b es k j ≡ t)
   has_pair b q t h = elim h.3 [ inl r ↦ every_active b q t h.0 h.1 h.2 r.0 r.1 h.4 | inr r ↦ every_passive b q t h.0 h.1 h.2 r.0 r.1 h.4 ]
 
   pub task_done : (v : Shown) (limit : ℕ) (b : Bool) → is_passive e ≡ b → (ds : List Draft) → AreMade g v words es limit b k (partners es k) ds

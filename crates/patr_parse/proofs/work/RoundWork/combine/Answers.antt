@@ -56,7 +56,7 @@ returns-then-size-self-clause-combined g c =
     let so : c.in_ok-has_unifier.field-0 ≡ true = search rules in
     let marks = (c.in_ok-has_unifier.ensures.some so).marks in
     let sum = f.sum in (
-      f.some marks.U marks.u (subst (λ r. IsUnifier v.structure (value_of v r) (c.last_slot.result.0 ∷ []) v.structure (value_of v c.edge-2.result.now.root) marks.U marks.u) (sym c.in-Node.is) marks.unifier),
+      f.some marks.unifier marks.top (subst (λ r. IsUnifier v.structure (value_of v r) (c.last_slot.result.0 ∷ []) v.structure (value_of v c.edge-2.result.now.root) marks.unifier marks.top) (sym c.in-Node.is) marks.is_unifier),
       omega (arith, sum, c.if-size-self.true),
     )
 

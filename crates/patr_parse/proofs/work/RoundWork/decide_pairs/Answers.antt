@@ -2,7 +2,7 @@ use Rattle.std.proofs.Common.{◌≡◌, ◌<◌, ◌+◌, [], ◌∙◌, ℕ, c
 use Rattle.std.proofs.lemmas.List.{take_more}
 use Rattle.std.proofs.Math.Seq.{take-length}
 use Rattle.std.proofs.lemmas.Option.{slice_get_within}
-use Rattle.patr_parse.proofs.Names.{Extend, size, IsSolvable, partners, rules_of, AreMade, ArePartners, Has, pair}
+use Rattle.patr_parse.proofs.Names.{Extend, size, IsSolvable, partners, rules_of, AreMade, ArePartners, IsIn, pair}
 use Rattle.patr_chart.specs.Charted.{tree}
 use Rattle.patr_parse.specs.Drafts.{IsDecided}
 use Rattle.patr_parse.proofs.Numbers.{Rising, has_at, has_taken, not_before}
@@ -27,7 +27,7 @@ decide_one-requires-clause-partners g c =
     let i = c.loop-other.other-index in
     let j = get_or items i 0 in
     let b = c.is_passive-passive.result in
-    let h = pair_is_partners es c.args.k c.edge.result.now c.edge.ensures.there b (sym c.is_passive-passive.ensures) j (subst (λ l. Has l j) c.partners-other-items.ensures (has_at items i 0 c.loop-other-test.true)) in
+    let h = pair_is_partners es c.args.k c.edge.result.now c.edge.ensures.there b (sym c.is_passive-passive.ensures) j (subst (λ l. IsIn l j) c.partners-other-items.ensures (has_at items i 0 c.loop-other-test.true)) in
     subst (λ a. ArePartners es a c.ordered-pair.result.1) (sym c.ordered-pair.ensures.active) (subst (λ p. ArePartners es (cond b j c.args.k) p) (sym c.ordered-pair.ensures.passive) h)
 
 pub returns-then-not-branch-clause-none : goal.returns-then-not-branch-clause-none
@@ -39,7 +39,7 @@ returns-then-not-branch-clause-none g c =
     let j = get_or items i 0 in
     let b = c.is_passive-passive.result in
     let large : c.in_ok-decide_one.field-0 ≡ false = search rules in
-    let two = pair_is_partners es c.args.k c.edge.result.now c.edge.ensures.there b (sym c.is_passive-passive.ensures) j (subst (λ l. Has l j) c.partners-other-items.ensures (has_at items i 0 c.loop-other-test.true)) in
+    let two = pair_is_partners es c.args.k c.edge.result.now c.edge.ensures.there b (sym c.is_passive-passive.ensures) j (subst (λ l. IsIn l j) c.partners-other-items.ensures (has_at items i 0 c.loop-other-test.true)) in
     let found = subst (λ q. IsDecided r (g.N.Nodes.shown c.args.self.now.nodes.now) c.args.self.now.chart.now.words es c.args.self.now.limit (Extend (tree es c.ordered-pair.result.0) (tree es c.ordered-pair.result.1)) c.loop-other.made.items c.decide_one.new.made.items q) large c.in_ok-decide_one.ensures.decided in
     let same = pair_ordered b es c.args.k j c.ordered-pair.result.0 c.ordered-pair.result.1 c.ordered-pair.ensures.active c.ordered-pair.ensures.passive in
     (pair b es c.args.k j, is_pair r c.args.self.now.chart.now.words es c.edge.ensures.edges c.requires.ready.fit b c.args.k j two, subst (IsSolvable r) same found.0, subst (λ t. c.args.self.now.limit < size t) same found.1)
@@ -56,8 +56,8 @@ loop-other-preserved g c =
     let j = get_or items i 0 in
     let b = c.is_passive-passive.result in
     let is : items ≡ partners es c.args.k = c.partners-other-items.ensures in
-    let below : (n : ℕ) → Has items n → n < length es = λ n h.
-    let p = is_partner_of es c.args.k c.edge.result.now c.edge.ensures.there n (subst (λ l. Has l n) is h) in slice_get_within es n p.0 p.2 in
+    let below : (n : ℕ) → IsIn items n → n < length es = λ n h.
+    let p = is_partner_of es c.args.k c.edge.result.now c.edge.ensures.there n (subst (λ l. IsIn l n) is h) in slice_get_within es n p.0 p.2 in
     let done : c.in_ok-decide_one.field-0 ≡ true = search rules in
     let same = pair_ordered b es c.args.k j c.ordered-pair.result.0 c.ordered-pair.result.1 c.ordered-pair.ensures.active c.ordered-pair.ensures.passive in
     let decided = subst (λ q. IsDecided r v words es limit (pair b es c.args.k j) c.loop-other.made.items c.decide_one.new.made.items q) done
