@@ -1,14 +1,7 @@
 -- What corresponds is the same.
 use Rattle.std.proofs.Common.{◌≡◌, ℕ, zero, suc, Bool, true, false, cond, nat_eq, List, [], ◌∷◌, get_or, Option, Some, None, refl, sym, ap, ◌∙◌, arith, subst}
-use Rattle.std.proofs.lemmas.List.{length-map}
-use Rattle.patr_model.specs.Structure.{Value, Atom, Node, Arcs, Structure, along, arc, arcs_of, IsValue}
-use Rattle.patr_model.specs.Subsumption.{image, IsMap, Same}
-use Rattle.patr_model.proofs.Maps.{some_inj}
-use Rattle.patr_arena.specs.declared.value.Ref.{Ref}
+use Rattle.patr_library.proofs.Names.{length-map, Value, Atom, Node, Arcs, Structure, along, arc, arcs_of, IsValue, image, IsMap, Same, some_inj, Ref, Feature, own_value, own_arcs, own_nodes, IsImage, AreCopies, Corresponds}
 use Rattle.patr_arena.specs.declared.value.Ref.TheVariants as ref
-use Rattle.patr_arena.specs.declared.value.Feature.{Feature}
-use Rattle.patr_library.specs.Own.{own_value, own_arcs, own_nodes}
-use Rattle.patr_library.specs.Copies.{IsImage, AreCopies, Corresponds}
 
 pub own_get : (nodes : List (List Feature)) (k : ℕ) → get_or (own_nodes nodes) k [] ≡ own_arcs (get_or nodes k [])
 own_get [] k = refl

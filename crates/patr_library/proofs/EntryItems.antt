@@ -1,17 +1,7 @@
 -- The items of entries are exactly the variants that have a solution.
 use Rattle.std.proofs.Common.{◌≡◌, inl, inr, ℕ, List, [], ◌∷◌, map, Some, slice_get, refl, sym, ap, ◌∙◌, subst}
-use Rattle.std.specs.List.{AllByRecursion}
-use Rattle.patr_model.specs.Derivation.{Rules, EntryVariant, Leaf, entry_variant}
-use Rattle.patr_model.specs.Structure.{Node}
-use Rattle.patr_model.specs.Solution.{IsSolvable, IsLeastValue}
-use Rattle.patr_model.specs.Variants.{AreWithin}
-use Rattle.patr_model.proofs.Maps.{some_inj}
+use Rattle.patr_library.proofs.Names.{AllByRecursion, Rules, EntryVariant, Leaf, entry_variant, Node, IsSolvable, IsLeastValue, AreWithin, some_inj, Shown, IsShown, number_of, ref_of, value_of, EntryItem, Bounds, IsEntryItem, Rises, AreKept, all_numbered, HasEntryItem, HasNoEntry, NumberedEntry}
 use Rattle.patr_model.proofs.Leaves.{leaves_are_rules}
-use Rattle.patr_arena.specs.Shown.{Shown, IsShown, number_of, ref_of, value_of}
-use Rattle.patr_library.specs.declared.item.EntryItem.{EntryItem}
-use Rattle.patr_library.specs.Stored.{Bounds, IsEntryItem, Rises}
-use Rattle.patr_library.specs.Built.{AreKept, all_numbered}
-use Rattle.patr_library.specs.Entries.{HasEntryItem, HasNoEntry, NumberedEntry}
 use Rattle.patr_library.proofs.ItemsKept.{block_arc, block_bounds, block_least}
 use Rattle.patr_library.proofs.Listed.{kept_all, kept_every, all_members, every_member, items_rise}
 

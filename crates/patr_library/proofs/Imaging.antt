@@ -1,17 +1,7 @@
 -- Copies of the first places of a structure.
 use Rattle.std.proofs.Common.{◌≡◌, ◌⊎◌, inl, inr, ℕ, zero, suc, ◌+◌, ◌<◌, List, [], ◌∷◌, ◌++◌, length, length-append, map, get_or, take, Option, Some, None, slice_get, refl, sym, ap, ◌∙◌, arith, subst}
-use Rattle.std.proofs.lemmas.List.{map-append, get_or_append_left, take_more}
-use Rattle.patr_lists.proofs.Places.{get_last}
-use Rattle.patr_model.specs.Structure.{Value, Atom, Node, Arc, Arcs, Structure, arcs_of}
-use Rattle.patr_model.specs.Subsumption.{Same}
-use Rattle.patr_model.proofs.Maps.{some_inj}
-use Rattle.patr_arena.specs.declared.value.Ref.{Ref}
+use Rattle.patr_library.proofs.Names.{map-append, get_or_append_left, take_more, get_last, Value, Atom, Node, Arc, Arcs, Structure, arcs_of, Same, some_inj, Ref, Feature, Shown, RefIsHeld, AllHeld, arc_from, arcs_from, ref_of, attributes, own_nodes, own_value, IsOwn, AllOwn, IsOwnBlock, IsRooted, IsImage, AreCopies, image_at, AreImages}
 use Rattle.patr_arena.specs.declared.value.Ref.TheVariants as ref
-use Rattle.patr_arena.specs.declared.value.Feature.{Feature}
-use Rattle.patr_arena.specs.Shown.{Shown, RefIsHeld, AllHeld, arc_from, arcs_from, ref_of}
-use Rattle.patr_arena.specs.Blocks.{attributes}
-use Rattle.patr_library.specs.Own.{own_nodes, own_value, IsOwn, AllOwn, IsOwnBlock, IsRooted}
-use Rattle.patr_library.specs.Copies.{IsImage, AreCopies, image_at, AreImages}
 use Rattle.patr_library.proofs.Corresponding.{same, same_copies}
 use Rattle.patr_library.proofs.Owned.{empty_own}
 

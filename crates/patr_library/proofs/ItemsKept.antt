@@ -1,29 +1,12 @@
 -- The least value of a block where the block stands in an arena, and what is reached from it.
 use Rattle.std.proofs.Common.{◌≡◌, inl, inr, ℕ, zero, suc, ◌+◌, ◌<◌, ◌≤◌, Bool, true, false, cond, nat_eq, List, [], ◌∷◌, length, length-append, get_or, Some, refl, sym, ap, ◌∙◌, arith, subst}
-use Rattle.std.specs.List.{sum_by}
-use Rattle.std.proofs.lemmas.List.{length-map, get_or-append-add}
+use Rattle.patr_library.proofs.Names.{sum_by, length-map, get_or-append-add, total, Value, Atom, Node, Structure, along, arc, at, Same, Equation, variant, RuleAt, IsLeastOf, AreWithin, some_inj, and_then_some, own, Ref, Feature, Shown, IsShown, IsHeld, number_of, ref_of, with_block, held_below, still_held, same_number, block_extends, new_number, own_arcs, own_nodes, own_value, IsOwn, AllOwn, IsOwnBlock, IsPlacedAt, shift, shifted, IsLeastAt, Bounds, HasBlock}
 use Rattle.std.proofs.lemmas.List.Sums.{sum_by-cons}
 use Rattle.patr_lists.proofs.Totals.{total_room}
 use Rattle.patr_lists.proofs.Members.{no_longer}
 use Rattle.patr_lists.specs.Members.{IsIn}
-use Rattle.patr_lists.specs.Numbers.{total}
-use Rattle.patr_model.specs.Structure.{Value, Atom, Node, Structure, along, arc, at}
-use Rattle.patr_model.specs.Subsumption.{Same}
-use Rattle.patr_model.specs.Equation.{Equation}
-use Rattle.patr_model.specs.Variants.{variant, RuleAt, IsLeastOf, AreWithin}
-use Rattle.patr_model.proofs.Maps.{some_inj, and_then_some}
-use Rattle.patr_marks.specs.Machine.{own}
 use Rattle.patr_unify.specs.Deciding.{Counts}
-use Rattle.patr_arena.specs.declared.value.Ref.{Ref}
 use Rattle.patr_arena.specs.declared.value.Ref.TheVariants as ref
-use Rattle.patr_arena.specs.declared.value.Feature.{Feature}
-use Rattle.patr_arena.specs.Shown.{Shown, IsShown, IsHeld, number_of, ref_of}
-use Rattle.patr_arena.specs.Blocks.{with_block}
-use Rattle.patr_arena.proofs.Showing.{held_below, still_held, same_number, block_extends, new_number}
-use Rattle.patr_library.specs.Own.{own_arcs, own_nodes, own_value, IsOwn, AllOwn, IsOwnBlock, IsPlacedAt, shift, shifted}
-use Rattle.patr_library.specs.Solved.{IsLeastAt}
-use Rattle.patr_library.specs.Stored.{Bounds}
-use Rattle.patr_library.specs.Built.{HasBlock}
 use Rattle.patr_library.proofs.Corresponding.{own_get}
 use Rattle.patr_library.proofs.Owned.{held_anywhere}
 use Rattle.patr_library.proofs.Placed.{placed_same, placed_new, placed_longer}

@@ -1,21 +1,9 @@
 -- What is kept of each variant.
 use Rattle.std.proofs.Common.{◌≡◌, ◌⊎◌, inl, inr, ℕ, zero, suc, ◌+◌, ◌-◌, ◌<◌, List, [], ◌∷◌, ◌++◌, length, length-append, map, take, get_or, Some, slice_get, refl, sym, ap, ◌∙◌, arith, subst}
+use Rattle.patr_library.proofs.Names.{sum_by, length-map, map-append, take_more, append-nil, append_assoc, slice_get-map, slice_get_within, equations_at, variant_at, Feature, Addr, AllByRecursion, extends_on, Shown, IsShown, arcs_from, Extends, with_block, RuleItem, IsLeastAt, HasBlock, AreKept, IsDealt, AreDealt, IsRuleDealt, HasRuleItem, Numbered, numbered, StaysWithin}
 use Rattle.std.specs.Option.{option_map}
-use Rattle.std.specs.List.{sum_by}
-use Rattle.std.proofs.lemmas.List.{length-map, map-append, take_more, append-nil, append_assoc}
-use Rattle.std.proofs.lemmas.Option.{slice_get-map, slice_get_within}
 use Rattle.patr_grammar.specs.declared.grammar.SymbolText.{SymbolText}
 use Rattle.patr_expand.specs.declared.variant.RuleVariant.{RuleVariant}
-use Rattle.patr_expand.specs.Seen.{equations_at, variant_at}
-use Rattle.patr_arena.specs.declared.value.Feature.{Feature}
-use Rattle.patr_arena.specs.declared.value.Addr.{Addr}
-use Rattle.std.specs.List.{AllByRecursion}
-use Rattle.patr_arena.proofs.Showing.{extends_on}
-use Rattle.patr_arena.specs.Shown.{Shown, IsShown, arcs_from}
-use Rattle.patr_arena.specs.Blocks.{Extends, with_block}
-use Rattle.patr_library.specs.declared.item.RuleItem.{RuleItem}
-use Rattle.patr_library.specs.Solved.{IsLeastAt}
-use Rattle.patr_library.specs.Built.{HasBlock, AreKept, IsDealt, AreDealt, IsRuleDealt, HasRuleItem, Numbered, numbered, StaysWithin}
 
 extends_self : (v : Shown) → Extends v v
 extends_self v = record { sizes = ([], sym (append-nil v.sizes)); structure = ([], sym (append-nil v.structure)) }

@@ -1,37 +1,11 @@
 -- What is kept of each variant of an entry.
 use Rattle.std.proofs.Common.{◌≡◌, inr, ℕ, suc, ◌+◌, ◌<◌, List, [], ◌∷◌, ◌++◌, length, length-append, map, take, get_or, Some, None, slice_get, refl, sym, ap, ◌∙◌, arith, subst, Vec, Global}
-use Rattle.std.proofs.lemmas.List.{length-map, map-append}
-use Rattle.std.proofs.lemmas.Option.{slice_get-get_or}
-use Rattle.std.specs.List.{AllByRecursion, sum_by}
-use Rattle.patr_model.specs.Structure.{Node, arc}
-use Rattle.patr_model.specs.Derivation.{EntryVariant}
-use Rattle.patr_model.specs.Grammar.{variants}
-use Rattle.patr_model.specs.Variants.{AreWithin}
+use Rattle.patr_library.proofs.Names.{length-map, map-append, slice_get-get_or, AllByRecursion, sum_by, Node, arc, EntryVariant, variants, AreWithin, entries_fault, entry_fault, entry_variant_of, feature_variants, are_built, Id, Fault, features_seen, Entry, entry_seen, ExpandCause, number, lists_at, IsRefusedBy, Ref, Feature, Shown, IsShown, ValueIsHeld, ref_of, value_of, Extends, with_block, same_number, same_number_held, still_held, EntryItem, IsOwn, own_nodes, own_value, IsLeastAt, keys, HasBlock, all_numbered, numbered_from, AreEntriesDealt, IsEntryDealt, HasEntryItem, HasNoEntry, NumberedEntry, StaysAlone, entry_variants_of, variant_of}
 use Rattle.patr_model.specs.Productions as production
-use Rattle.patr_model.specs.Build.{entries_fault, entry_fault, entry_variant_of, feature_variants}
-use Rattle.patr_model.proofs.StatedCategories.{are_built}
-use Rattle.patr_text.specs.declared.symbols.Id.{Id}
-use Rattle.patr_text.specs.declared.fault.Fault.{Fault}
-use Rattle.patr_grammar.specs.Reading.{features_seen}
-use Rattle.patr_lexicon.specs.declared.lexicon.Entry.{Entry}
-use Rattle.patr_lexicon.specs.Seen.{entry_seen}
 use Rattle.patr_expand.specs.declared.equation.Equation.{Equation}
-use Rattle.patr_expand.specs.declared.cause.ExpandCause.{ExpandCause}
-use Rattle.patr_expand.specs.Seen.{number, lists_at, IsRefusedBy}
 use Rattle.patr_arena.specs.declared.value.Value as its
 use Rattle.patr_arena.specs.declared.value.Value.TheVariants as value
-use Rattle.patr_arena.specs.declared.value.Ref.{Ref}
 use Rattle.patr_arena.specs.declared.value.Ref.TheVariants as ref
-use Rattle.patr_arena.specs.declared.value.Feature.{Feature}
-use Rattle.patr_arena.specs.Shown.{Shown, IsShown, ValueIsHeld, ref_of, value_of}
-use Rattle.patr_arena.specs.Blocks.{Extends, with_block}
-use Rattle.patr_arena.proofs.Showing.{same_number, same_number_held, still_held}
-use Rattle.patr_library.specs.declared.item.EntryItem.{EntryItem}
-use Rattle.patr_library.specs.Own.{IsOwn, own_nodes, own_value}
-use Rattle.patr_library.specs.Solved.{IsLeastAt}
-use Rattle.patr_library.specs.Stored.{keys}
-use Rattle.patr_library.specs.Built.{HasBlock, all_numbered, numbered_from}
-use Rattle.patr_library.specs.Entries.{AreEntriesDealt, IsEntryDealt, HasEntryItem, HasNoEntry, NumberedEntry, StaysAlone, entry_variants_of, variant_of}
 use Rattle.patr_library.proofs.Keeping.{block_still, both_dealt, new_block}
 use Rattle.patr_library.proofs.KeptRules.{AreFirst, each_more, fault_here, taken_fault}
 

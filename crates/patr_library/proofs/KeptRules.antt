@@ -1,23 +1,11 @@
 -- The items of all rules.
 use Rattle.std.proofs.Common.{◌≡◌, ℕ, zero, suc, ◌+◌, ◌<◌, List, [], ◌∷◌, ◌++◌, length, map, take, get_or, Option, Some, None, slice_get, refl, sym, ap, ◌∙◌, arith, subst}
-use Rattle.std.specs.List.{AllByRecursion}
-use Rattle.std.proofs.lemmas.List.{length-map, map-append, take_more, append-nil, append_assoc, length-take-le}
+use Rattle.patr_library.proofs.Names.{AllByRecursion, length-map, map-append, take_more, append-nil, append_assoc, length-take-le, AreWithin, SizeFault, first_fault, rule_fault, rules_fault, are_built, Id, Fault, some_inj, rule_seen, ExpandCause, number, equations_at, variant_at, variants_at, AreNumbered, IsRefusedBy, cause_seen, keys, numbered, numbered_from, all_numbered, variants_of, StaysWithin}
 use Rattle.patr_model.specs.Derivation as model
-use Rattle.patr_model.specs.Variants.{AreWithin}
 use Rattle.patr_model.specs.Productions as production
-use Rattle.patr_model.specs.Build.{SizeFault, first_fault, rule_fault, rules_fault}
-use Rattle.patr_model.proofs.StatedCategories.{are_built}
-use Rattle.patr_text.specs.declared.symbols.Id.{Id}
-use Rattle.patr_text.specs.declared.fault.Fault.{Fault}
 use Rattle.patr_text.specs.declared.fault.Fault.TheVariants.{Memory, Refused}
-use Rattle.patr_model.proofs.Maps.{some_inj}
 use Rattle.patr_grammar.specs.declared.grammar.RuleText.{RuleText}
-use Rattle.patr_grammar.specs.Reading.{rule_seen}
 use Rattle.patr_expand.specs.declared.variant.RuleVariant.{RuleVariant}
-use Rattle.patr_expand.specs.declared.cause.ExpandCause.{ExpandCause}
-use Rattle.patr_expand.specs.Seen.{number, equations_at, variant_at, variants_at, AreNumbered, IsRefusedBy, cause_seen}
-use Rattle.patr_library.specs.Stored.{keys}
-use Rattle.patr_library.specs.Built.{numbered, numbered_from, all_numbered, variants_of, StaysWithin}
 
 pub numbered_is : (n k : ℕ) (vs : List RuleVariant) → AreNumbered n k vs → numbered vs ≡ numbered_from n k (variants_at vs)
 numbered_is n k [] h = refl

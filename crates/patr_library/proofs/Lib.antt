@@ -9,6 +9,7 @@ mod Listed
 mod Listing
 mod Marking
 mod Merged
+mod Names
 mod Owned
 mod Parts
 mod Placed

@@ -1,11 +1,8 @@
 -- The lists by key.
 use Rattle.std.proofs.Common.{◌≡◌, ℕ, ◌+◌, ◌<◌, List, [], length, take, get_or, refl, sym, ap, ◌∙◌, arith}
-use Rattle.std.proofs.lemmas.List.{length-take-le, take_more}
-use Rattle.patr_lists.specs.Numbers.{places}
+use Rattle.patr_library.proofs.Names.{length-take-le, take_more, places, Id, has_key}
 use Rattle.patr_lists.specs.Tables.{Table, with_number}
 use Rattle.patr_lists.proofs.Tables.{index_added}
-use Rattle.patr_text.specs.declared.symbols.Id.{Id}
-use Rattle.patr_library.specs.Lists.{has_key}
 
 -- with the next key
 pub index_next : (keys : List Id) (i : ℕ) (d : Id) (L M : Table) (s : ℕ) → i < length keys → (get_or keys i d).0 < length L → M ≡ with_number L (get_or keys i d).0 i → get_or L s [] ≡ places (has_key s) 0 (take i keys) → get_or M s [] ≡ places (has_key s) 0 (take (i + 1) keys)

@@ -1,15 +1,8 @@
 -- Marks of the nodes that a value reaches, and the copies of those that are marked.
 use Rattle.std.proofs.Common.{◌≡◌, ◌⊎◌, inl, inr, ℕ, zero, suc, ◌+◌, ◌<◌, ◌≤◌, Bool, true, false, List, [], ◌∷◌, ◌++◌, length, length-append, get_or, set, drop, replicate, Option, Some, None, is_some, refl, sym, ap, ◌∙◌, subst, arith}
-use Rattle.std.specs.List.{AllByRecursion}
-use Rattle.std.proofs.lemmas.List.{drop_more, get_or_append_left, length-replicate, length-set}
-use Rattle.patr_model.specs.Structure.{Value, Atom, Node, Arcs, Structure, IsBelow, IsReached, IsStructure, IsValue, arc, arcs_of, at}
+use Rattle.patr_library.proofs.Names.{AllByRecursion, drop_more, get_or_append_left, length-replicate, length-set, Value, Atom, Node, Arcs, Structure, IsBelow, IsReached, IsStructure, IsValue, arc, arcs_of, at, and_then_some, below_more_places, some_inj, Has, Feature, Shown, arcs_from, ref_of, AreReached, HasCopy, HaveCopies, IsNextImage, image_at, with_mark, with_marks}
 use Rattle.patr_model.proofs.Alike as path
-use Rattle.patr_model.proofs.Maps.{and_then_some, below_more_places, some_inj}
-use Rattle.patr_marks.specs.Machine.{Has}
 use Rattle.patr_marks.proofs.Lists.{along_has, distinct_along}
-use Rattle.patr_arena.specs.declared.value.Feature.{Feature}
-use Rattle.patr_arena.specs.Shown.{Shown, arcs_from, ref_of}
-use Rattle.patr_library.specs.Copies.{AreReached, HasCopy, HaveCopies, IsNextImage, image_at, with_mark, with_marks}
 use Rattle.patr_library.proofs.Imaging.{at_last}
 
 -- ---- marks

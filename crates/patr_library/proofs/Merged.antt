@@ -1,25 +1,9 @@
 -- The items of rules and entries together, and what is found by key.
 use Rattle.std.proofs.Common.{◌≡◌, ℕ, zero, suc, ◌+◌, ◌<◌, Bool, cond, List, [], ◌∷◌, ◌++◌, length, map, take, get_or, slice_get, Some, None, refl, sym, ap, ◌∙◌, arith, subst}
-use Rattle.std.specs.List.{AllByRecursion}
-use Rattle.std.proofs.lemmas.List.{length-map, map-append, take_more}
-use Rattle.std.proofs.lemmas.Option.{slice_get_within}
-use Rattle.patr_model.proofs.Maps.{and_then_some}
+use Rattle.patr_library.proofs.Names.{AllByRecursion, length-map, map-append, take_more, slice_get_within, and_then_some, places, build_fault, rules_fault, entries_fault, grammar_first, in_lexicon, rule_variants, entry_variants, are_built, Id, rule_seen, Entry, entry_seen, Shown, IsShown, RuleItem, EntryItem, has_key, AreOfEntries, HasItems, IsEntryItem, built_rules, grammar_of, entries_of, keys, word_at, is_number, is_of_word, is_of_mother, AreKept, AreRulesDealt, HasRuleItem, HasNoRule, all_numbered, variants_of, AreEntriesDealt, HasEntryItem, HasNoEntry, entry_variants_of}
 use Rattle.std.proofs.lemmas.Simd.{map-map}
-use Rattle.patr_lists.specs.Numbers.{places}
-use Rattle.patr_model.specs.Build.{build_fault, rules_fault, entries_fault, grammar_first, in_lexicon, rule_variants, entry_variants}
-use Rattle.patr_model.proofs.StatedCategories.{are_built}
-use Rattle.patr_text.specs.declared.symbols.Id.{Id}
 use Rattle.patr_grammar.specs.declared.grammar.Grammar.{Grammar}
-use Rattle.patr_grammar.specs.Reading.{rule_seen}
-use Rattle.patr_lexicon.specs.declared.lexicon.Entry.{Entry}
-use Rattle.patr_lexicon.specs.Seen.{entry_seen}
-use Rattle.patr_arena.specs.Shown.{Shown, IsShown}
-use Rattle.patr_library.specs.declared.item.RuleItem.{RuleItem}
-use Rattle.patr_library.specs.declared.item.EntryItem.{EntryItem}
-use Rattle.patr_library.specs.Lists.{has_key}
-use Rattle.patr_library.specs.Stored.{AreOfEntries, HasItems, IsEntryItem, built_rules, grammar_of, entries_of, keys, number, word_at, is_number, is_of_word, is_of_mother}
-use Rattle.patr_library.specs.Built.{AreKept, AreRulesDealt, HasRuleItem, HasNoRule, all_numbered, variants_of}
-use Rattle.patr_library.specs.Entries.{AreEntriesDealt, HasEntryItem, HasNoEntry, entry_variants_of}
+use Rattle.patr_library.specs.Stored.{number}
 use Rattle.patr_library.proofs.Keeping.{kept_map, rule_still}
 use Rattle.patr_library.proofs.RuleItems.{rule_items, rules_rise, every_rule}
 use Rattle.patr_library.proofs.EntryItems.{entry_items, entries_rise, every_entry}

@@ -1,17 +1,7 @@
 -- Blocks without old addresses.
 use Rattle.std.proofs.Common.{◌≡◌, ℕ, zero, suc, ◌<◌, List, [], ◌∷◌, ◌++◌, length, length-append, get_or, drop, refl, sym, ap, ◌∙◌, arith}
-use Rattle.std.proofs.lemmas.List.{length-map, map-append, append_assoc, append-nil}
-use Rattle.std.specs.List.Sorted.{IsStrictlyIncreasing}
-use Rattle.patr_model.specs.Structure.{Node}
-use Rattle.patr_model.specs.EquationStructures.{Pointed, topped, to_value}
-use Rattle.patr_text.specs.declared.symbols.Id.{Id}
-use Rattle.patr_arena.specs.declared.value.Ref.{Ref}
+use Rattle.patr_library.proofs.Names.{length-map, map-append, append_assoc, append-nil, IsStrictlyIncreasing, Node, Pointed, topped, to_value, Id, Ref, Feature, Shown, AllBelow, AllOldHeld, LeadsBelow, OldRefIsHeld, OldIsHeld, attributes, ids, own_arcs, own_nodes, pointed, IsOwn, AllOwn, IsOwnBlock, IsRooted, IsLedTo}
 use Rattle.patr_arena.specs.declared.value.Ref.TheVariants as ref
-use Rattle.patr_arena.specs.declared.value.Feature.{Feature}
-use Rattle.patr_arena.specs.Shown.{Shown}
-use Rattle.patr_arena.specs.Blocks.{AllBelow, AllOldHeld, LeadsBelow, OldRefIsHeld, OldIsHeld, attributes}
-use Rattle.patr_arena.specs.Paths.{ids}
-use Rattle.patr_library.specs.Own.{own_arcs, own_nodes, pointed, IsOwn, AllOwn, IsOwnBlock, IsRooted, IsLedTo}
 
 pub own_below : (n : ℕ) (fs : List Feature) → AllOwn n fs → AllBelow n fs
 own_below n [] h = tt

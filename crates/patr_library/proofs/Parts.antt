@@ -1,20 +1,9 @@
 -- The least value of two lists of equations, from one of each.
 use Rattle.std.proofs.Common.{◌≡◌, ℕ, suc, ◌+◌, List, [], ◌∷◌, ◌++◌, length, map, take, drop, Some, slice_get, refl, sym, ap, ◌∙◌, arith, subst}
-use Rattle.std.specs.List.{AllByRecursion}
-use Rattle.patr_model.proofs.StatedCategories.{within_append}
-use Rattle.patr_lists.proofs.Alls.{all_append, all_left, all_right}
-use Rattle.patr_model.specs.Structure.{Value, Node, Structure, arc, IsValue, IsStructure}
-use Rattle.patr_model.specs.Subsumption.{MapsInto, TakesBoth, IsUnifier}
-use Rattle.patr_model.specs.Equation.{Equation, Holds}
-use Rattle.patr_model.specs.Variants.{variant, RuleAt, IsLeastOf, AreWithin}
-use Rattle.patr_model.proofs.Maps.{some_inj}
-use Rattle.patr_model.proofs.Variants.{rule_carried}
+use Rattle.patr_library.proofs.Names.{AllByRecursion, within_append, all_append, all_left, all_right, Value, Node, Structure, arc, IsValue, IsStructure, MapsInto, TakesBoth, IsUnifier, Equation, Holds, variant, RuleAt, IsLeastOf, AreWithin, some_inj, rule_carried, Feature, own_nodes, IsLeastAt, HasNone, IsUnified, TakeNone}
 use Rattle.patr_arena.specs.declared.value.Ref.TheVariants as ref
-use Rattle.patr_arena.specs.declared.value.Feature.{Feature}
-use Rattle.patr_library.specs.Own.{own_nodes}
-use Rattle.patr_library.specs.Solved.{IsLeastAt, HasNone, IsUnified, TakeNone}
 use Rattle.patr_library.proofs.Placed.{own_structure, own_is_value}
-use Rattle.patr_library.proofs.Steps.{all_of, same_least}
+use Rattle.patr_library.proofs.Steps.{all_of, same_least, within_left}
 
 -- a node has its slots but once
 slots_are : (G : Structure) (v : Value) (k : ℕ) (vs ws : List Value) → ((i : ℕ) (x : Value) → slice_get vs i ≡ Some x → arc G v (k + i) ≡ Some x)
@@ -72,10 +61,6 @@ module _ (cs : List ℕ) (es fs : List Equation) where
           least = λ G v s held r. un.least G v (takes G v s held r);
         }
 
-pub within_right : (n : ℕ) (es fs : List Equation) → AreWithin n (es ++ fs) → AreWithin n fs
-within_right n [] fs h = h
-within_right n (e ∷ es) fs h = within_right n es fs h.1
-
 -- the least values of both parts, and what they make
 pub least_of_both : (slots : ℕ) (es fs : List Equation) (left : List (List Feature)) (l : ℕ) (right : List (List Feature)) (r : ℕ) (nodes : List (List Feature)) (root : ℕ)
     → AreWithin slots es → AreWithin slots fs → IsLeastAt slots es left l → IsLeastAt slots fs right r → IsUnified left l right (ref.New r) nodes root → IsLeastAt slots (es ++ fs) nodes root
@@ -98,5 +83,18 @@ none_of_back slots es fs h = λ cs count G v s held x. h cs count G v s held (ba
 
 -- ---- the parts of a list
 
-pub halves : {X : Type 0} (f : X → Equation) (xs front back : List X) (i : ℕ) → front ≡ take i xs → back ≡ drop i xs → map f xs ≡ map f front ++ map f back
-halves f xs front back i p q = all_of f xs i ∙ (ap (λ l. map f l ++ map f (drop i xs)) (sym p) ∙ ap (λ l. map f front ++ map f l) (sym q))
+within_right : (n : ℕ) (es fs : List Equation) → AreWithin n (es ++ fs) → AreWithin n fs
+within_right n [] fs h = h
+within_right n (e ∷ es) fs h = within_right n es fs h.1
+
+-- equations that are cut in two
+pub record IsCut (slots : ℕ) (all front back : List Equation) : Type 0 where
+  pub is : front ++ back ≡ all
+  pub left : AreWithin slots front
+  pub right : AreWithin slots back
+
+pub cut_at : {X : Type 0} (f : X → Equation) (slots : ℕ) (xs front back : List X) (i : ℕ) → front ≡ take i xs → back ≡ drop i xs → AreWithin slots (map f xs) → IsCut slots (map f xs) (map f front) (map f back)
+cut_at f slots xs front back i p q w =
+    let is = all_of f xs i ∙ (ap (λ l. map f l ++ map f (drop i xs)) (sym p) ∙ ap (λ l. map f front ++ map f l) (sym q)) in
+    let both = subst (AreWithin slots) is w in
+    record { is = sym is; left = within_left slots (map f front) (map f back) both; right = within_right slots (map f front) (map f back) both }

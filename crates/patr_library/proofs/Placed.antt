@@ -1,20 +1,7 @@
 -- Blocks without old addresses where they stand in an arena.
 use Rattle.std.proofs.Common.{◌≡◌, ◌⊎◌, inl, inr, ℕ, zero, suc, ◌+◌, ◌-◌, ◌<◌, ◌≤◌, Bool, true, false, cond, nat_eq, nat_lt, lt-ltb, le-ltb, ltb-true, ltb-false, List, [], ◌∷◌, ◌++◌, length, length-append, map, get_or, Option, Some, None, slice_get, refl, sym, ap, ◌∙◌, arith, subst}
-use Rattle.std.proofs.lemmas.List.{length-map, get_or_append_left, get_or-append-add}
-use Rattle.patr_model.specs.Structure.{Value, Node, Structure, along, IsBelow, IsValue, IsStructure}
-use Rattle.std.specs.List.Sorted.{IsStrictlyIncreasing}
-use Rattle.patr_model.specs.Subsumption.{Same}
-use Rattle.patr_model.proofs.Maps.{some_inj}
-use Rattle.patr_arena.specs.declared.value.Ref.{Ref}
+use Rattle.patr_library.proofs.Names.{length-map, get_or_append_left, get_or-append-add, Value, Node, Structure, along, IsBelow, IsValue, IsStructure, IsStrictlyIncreasing, Same, some_inj, Ref, Feature, Addr, Shown, IsShown, IsHeld, RefIsHeld, number_of, ref_of, arcs_from, IsBlock, OldIsHeld, OldRefIsHeld, LeadsBelow, attributes, with_block, still_held, same_number, same_number_held, block_extends, new_number, new_node, rising_distinct, own_value, own_arcs, own_nodes, IsOwn, AllOwn, IsOwnBlock, ArePlaces, offsets_of, shift, shifted, IsPlacedAt, IsImage, AreCopies, Corresponds}
 use Rattle.patr_arena.specs.declared.value.Ref.TheVariants as ref
-use Rattle.patr_arena.specs.declared.value.Feature.{Feature}
-use Rattle.patr_arena.specs.declared.value.Addr.{Addr}
-use Rattle.patr_arena.specs.Shown.{Shown, IsShown, IsHeld, RefIsHeld, number_of, ref_of, arcs_from}
-use Rattle.patr_arena.specs.Blocks.{IsBlock, OldIsHeld, OldRefIsHeld, LeadsBelow, attributes, with_block}
-use Rattle.patr_arena.proofs.Showing.{still_held, same_number, same_number_held, block_extends, new_number, new_node}
-use Rattle.patr_arena.proofs.Rises.{rising_distinct}
-use Rattle.patr_library.specs.Own.{own_value, own_arcs, own_nodes, IsOwn, AllOwn, IsOwnBlock, ArePlaces, offsets_of, shift, shifted, IsPlacedAt}
-use Rattle.patr_library.specs.Copies.{IsImage, AreCopies, Corresponds}
 use Rattle.patr_library.proofs.Corresponding.{same, own_get}
 use Rattle.patr_library.proofs.Owned.{held_anywhere}
 

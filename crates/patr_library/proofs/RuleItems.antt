@@ -1,15 +1,7 @@
 -- The items of rules are exactly the variants that have a solution.
 use Rattle.std.proofs.Common.{◌≡◌, inl, inr, ℕ, List, length, map, Some, slice_get, refl, ap, ◌∙◌}
-use Rattle.std.specs.List.{AllByRecursion}
-use Rattle.patr_model.specs.Derivation.{Rules, RuleVariant, Begin, rule_variant}
-use Rattle.patr_model.specs.Solution.{IsSolvable}
-use Rattle.patr_model.specs.Variants.{AreWithin}
-use Rattle.patr_model.proofs.Variants.{variant_steps}
+use Rattle.patr_library.proofs.Names.{AllByRecursion, Rules, RuleVariant, Begin, rule_variant, IsSolvable, AreWithin, variant_steps, Shown, IsShown, RuleItem, IsRuleItem, Rises, AreKept, HasNoRule, HasRuleItem, Numbered, all_numbered}
 use Rattle.patr_arena.specs.declared.value.Ref.TheVariants as ref
-use Rattle.patr_arena.specs.Shown.{Shown, IsShown}
-use Rattle.patr_library.specs.declared.item.RuleItem.{RuleItem}
-use Rattle.patr_library.specs.Stored.{IsRuleItem, Rises}
-use Rattle.patr_library.specs.Built.{AreKept, HasNoRule, HasRuleItem, Numbered, all_numbered}
 use Rattle.patr_library.proofs.ItemsKept.{block_held, block_bounds, block_least}
 use Rattle.patr_library.proofs.Listed.{kept_all, kept_every, all_members, every_member, items_rise}
 

@@ -1,21 +1,8 @@
 -- The least value of one more equation.
 use Rattle.std.proofs.Common.{◌≡◌, ◌⊎◌, inl, inr, ℕ, zero, suc, ◌+◌, ◌<◌, ◌≤◌, cond, List, [], ◌∷◌, ◌++◌, length, length-append, map, get_or, slice_get, replicate, take, drop, None, Some, refl, sym, ap, ◌∙◌, arith, subst, eq-eqb, ne_eqb}
-use Rattle.std.proofs.lemmas.List.{map-append, length-replicate, take_more, take-append-drop}
-use Rattle.std.specs.List.Sorted.{IsStrictlyIncreasing}
-use Rattle.patr_model.specs.Structure.{Value, Node, Arcs, Structure, IsValue, IsStructure, along, arc}
-use Rattle.patr_model.specs.Subsumption.{MapsInto, Same, TakesBoth, IsUnifier}
-use Rattle.patr_model.specs.Equation.{Equation}
-use Rattle.patr_model.specs.Solution.{slots_from}
-use Rattle.patr_model.specs.Variants.{variant, RuleAt, IsLeastOf, AreWithin, IsWithin, equation_at, blank_slots, nodes_from}
-use Rattle.patr_model.proofs.Maps.{carries_arc, maps_reflexive, maps_transitive}
-use Rattle.patr_model.proofs.Variants.{rule_carried, variant_steps}
-use Rattle.patr_arena.specs.declared.value.Ref.{Ref}
+use Rattle.patr_library.proofs.Names.{map-append, length-replicate, take_more, take-append-drop, IsStrictlyIncreasing, Value, Node, Arcs, Structure, IsValue, IsStructure, along, arc, MapsInto, Same, TakesBoth, IsUnifier, Equation, slots_from, variant, RuleAt, IsLeastOf, AreWithin, IsWithin, blank_slots, nodes_from, carries_arc, maps_reflexive, maps_transitive, rule_carried, variant_steps, Ref, Feature, attributes, rising_tail, own_value, own_arcs, own_nodes, pointed, AllOwn, IsOwn, IsOwnBlock, IsRooted, IsStatement, slot_features, HasSlot, IsLeastAt, IsNew, HasNone, IsUnified, TakeNone}
+use Rattle.patr_model.specs.Variants.{equation_at}
 use Rattle.patr_arena.specs.declared.value.Ref.TheVariants as ref
-use Rattle.patr_arena.specs.declared.value.Feature.{Feature}
-use Rattle.patr_arena.specs.Blocks.{attributes}
-use Rattle.patr_arena.proofs.Rises.{rising_tail}
-use Rattle.patr_library.specs.Own.{own_value, own_arcs, own_nodes, pointed, AllOwn, IsOwn, IsOwnBlock, IsRooted, IsStatement}
-use Rattle.patr_library.specs.Solved.{slot_features, HasSlot, IsLeastAt, IsNew, HasNone, IsUnified, TakeNone}
 use Rattle.patr_library.proofs.Corresponding.{own_get}
 use Rattle.patr_library.proofs.Placed.{own_structure, own_is_value}
 

@@ -1,15 +1,7 @@
 -- The unifier of two blocks that stand in one arena.
 use Rattle.std.proofs.Common.{◌≡◌, ℕ, ◌+◌, ◌<◌, List, [], ◌∷◌, length, length-append, map, sym, ap, ◌∙◌, arith, subst}
-use Rattle.patr_model.specs.Structure.{Value, Node}
-use Rattle.patr_model.specs.Subsumption.{Same, IsUnifier}
-use Rattle.patr_arena.specs.declared.value.Ref.{Ref}
+use Rattle.patr_library.proofs.Names.{Value, Node, Same, IsUnifier, Ref, Feature, Shown, IsShown, number_of, ref_of, arcs_from, IsBlock, OldRefIsHeld, with_block, same_number, block_extends, new_number, IsMade, own_nodes, own_value, IsOwn, IsOwnBlock, IsRooted}
 use Rattle.patr_arena.specs.declared.value.Ref.TheVariants as ref
-use Rattle.patr_arena.specs.declared.value.Feature.{Feature}
-use Rattle.patr_arena.specs.Shown.{Shown, IsShown, number_of, ref_of, arcs_from}
-use Rattle.patr_arena.specs.Blocks.{IsBlock, OldRefIsHeld, with_block}
-use Rattle.patr_arena.proofs.Showing.{same_number, block_extends, new_number}
-use Rattle.patr_unify.specs.Copying.{IsMade}
-use Rattle.patr_library.specs.Own.{own_nodes, own_value, IsOwn, IsOwnBlock, IsRooted}
 use Rattle.patr_library.proofs.Owned.{held_anywhere}
 use Rattle.patr_library.proofs.Placed.{placed_same, placed_new, placed_longer, own_shift, ref_same}
 use Rattle.patr_library.proofs.Steps.{same_unifier}

@@ -1,11 +1,5 @@
 use Rattle.std.proofs.Common.{◌≡◌, ◌∙◌, ◌<◌, ◌++◌, length, sym, ap, subst, arith, map, take, get_or}
-use Rattle.std.proofs.lemmas.Result.{err_from_is_err_and}
-use Rattle.std.proofs.lemmas.Option.{get_or_from_slice_get}
-use Rattle.patr_lists.proofs.Places.{get_there}
-use Rattle.patr_arena.specs.Arenas.{shown_of}
-use Rattle.patr_model.specs.Build.{rule_fault, rules_fault}
-use Rattle.patr_grammar.specs.Reading.{rule_seen}
-use Rattle.patr_library.specs.Built.{AreRulesDealt, HasNoRule, HasRuleItem, all_numbered, numbered_from, variants_of}
+use Rattle.patr_library.proofs.Names.{err_from_is_err_and, get_or_from_slice_get, get_there, shown_of, rule_fault, rules_fault, rule_seen, AreRulesDealt, HasNoRule, HasRuleItem, all_numbered, numbered_from, variants_of}
 use Rattle.patr_library.proofs.Keeping.{both_dealt}
 use Rattle.patr_library.proofs.KeptRules.{each_more, taken_fault, fault_here, rules_first}
 use Rattle.patr_library.proofs.building.keep_rules.Goals as goal

@@ -1,8 +1,5 @@
 use Rattle.std.proofs.Common.{◌≡◌, ◌∙◌, ◌+◌, ◌++◌, ◌∷◌, [], sym, ap, subst, arith, take}
-use Rattle.std.proofs.lemmas.List.{take_all}
-use Rattle.patr_arena.specs.Arenas.{shown_of}
-use Rattle.patr_expand.specs.Seen.{variant_at}
-use Rattle.patr_library.specs.Built.{AreRulesDealt, HasNoRule, HasRuleItem, StaysWithin, numbered}
+use Rattle.patr_library.proofs.Names.{take_all, shown_of, variant_at, AreRulesDealt, HasNoRule, HasRuleItem, StaysWithin, numbered}
 use Rattle.patr_library.proofs.Keeping.{none_dealt, one_dealt, rule_still, numbered_more, within_at}
 use Rattle.patr_library.proofs.building.keep_variants.Goals as goal
 

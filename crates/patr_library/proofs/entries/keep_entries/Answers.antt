@@ -1,7 +1,5 @@
 use Rattle.std.proofs.Common.{◌≡◌, refl, arith, get_or, rules}
-use Rattle.std.proofs.lemmas.Result.{err_from_is_err_and}
-use Rattle.patr_arena.specs.Arenas.{shown_of}
-use Rattle.patr_library.specs.Entries.{HasEntryItem, HasNoEntry}
+use Rattle.patr_library.proofs.Names.{err_from_is_err_and, shown_of, HasEntryItem, HasNoEntry}
 use Rattle.patr_library.proofs.Keeping.{none_dealt}
 use Rattle.patr_library.proofs.KeptEntries.{entries_next, entry_fault_here}
 use Rattle.patr_library.proofs.entries.keep_entries.Goals as goal

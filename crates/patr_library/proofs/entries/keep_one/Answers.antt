@@ -1,11 +1,5 @@
 use Rattle.std.proofs.Common.{◌≡◌, ◌∙◌, ap, subst, rules}
-use Rattle.patr_model.specs.Grammar.{variants}
-use Rattle.patr_model.specs.Build.{feature_variants}
-use Rattle.patr_grammar.specs.Reading.{features_seen}
-use Rattle.patr_arena.specs.Arenas.{shown_of}
-use Rattle.patr_expand.specs.Seen.{lists_at, number}
-use Rattle.patr_library.specs.Built.{numbered_from}
-use Rattle.patr_library.specs.Entries.{AreEntriesDealt}
+use Rattle.patr_library.proofs.Names.{variants, feature_variants, features_seen, shown_of, lists_at, number, numbered_from, AreEntriesDealt}
 use Rattle.patr_library.proofs.KeptEntries.{all_alone, variants_are}
 use Rattle.patr_library.proofs.entries.keep_one.Goals as goal
 

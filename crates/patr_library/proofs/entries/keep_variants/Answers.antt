@@ -1,9 +1,5 @@
 use Rattle.std.proofs.Common.{◌≡◌, ◌∙◌, ◌++◌, ◌∷◌, [], length, length-append, map, refl, sym, ap, subst, rules, arith, append_assoc, append-nil}
-use Rattle.std.specs.Vec.Iter.{into_iter_items, into_iter_len}
-use Rattle.std.proofs.lemmas.List.{nil_from_length}
-use Rattle.patr_arena.specs.Arenas.{shown_of}
-use Rattle.patr_library.specs.Built.{numbered_from}
-use Rattle.patr_library.specs.Entries.{AreEntriesDealt, HasEntryItem, HasNoEntry, StaysAlone, variant_of}
+use Rattle.patr_library.proofs.Names.{into_iter_items, into_iter_len, nil_from_length, shown_of, numbered_from, AreEntriesDealt, HasEntryItem, HasNoEntry, StaysAlone, variant_of}
 use Rattle.patr_library.proofs.Keeping.{none_dealt, one_dealt}
 use Rattle.patr_library.proofs.KeptEntries.{among, entry_still, variant_more}
 use Rattle.patr_library.proofs.entries.keep_variants.Goals as goal

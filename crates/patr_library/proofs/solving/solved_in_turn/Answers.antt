@@ -1,8 +1,5 @@
 use Rattle.std.proofs.Common.{◌≡◌, ◌∙◌, ◌++◌, ◌∷◌, [], sym, ap, subst, arith, take, drop, ◌+◌, ◌<◌, length, IfNone, IfSome}
-use Rattle.std.proofs.lemmas.List.{take_all}
-use Rattle.patr_model.specs.Variants.{AreWithin}
-use Rattle.patr_expand.specs.Seen.{equation_at, equations_at}
-use Rattle.patr_library.specs.Solved.{HasNone, IsLeastAt}
+use Rattle.patr_library.proofs.Names.{take_all, AreWithin, equation_at, equations_at, HasNone, IsLeastAt}
 use Rattle.patr_library.proofs.Steps.{first_slot, taken_more, all_of, within_taken, none_still}
 use Rattle.patr_library.proofs.solving.solved_in_turn.Goals as goal
 

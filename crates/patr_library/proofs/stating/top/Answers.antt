@@ -1,5 +1,5 @@
 use Rattle.std.proofs.Common.{subst, sym}
-use Rattle.patr_library.specs.Own.{IsOwnBlock}
+use Rattle.patr_library.proofs.Names.{IsOwnBlock}
 use Rattle.patr_library.proofs.Owned.{own_below, own_push}
 use Rattle.patr_library.proofs.stating.top.Goals as goal
 

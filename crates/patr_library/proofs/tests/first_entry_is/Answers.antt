@@ -1,10 +1,5 @@
 use Rattle.std.proofs.Common.{◌≡◌, ◌∙◌, List, [], ◌∷◌, Some, slice_get, ap, sym, subst, rules}
-use Rattle.std.specs.List.{AllByRecursion}
-use Rattle.patr_model.specs.Derivation.{Rules}
-use Rattle.patr_model.proofs.Maps.{some_inj}
-use Rattle.patr_arena.specs.Shown.{Shown, ValueIsHeld}
-use Rattle.patr_library.specs.declared.item.EntryItem.{EntryItem}
-use Rattle.patr_library.specs.Stored.{IsEntryItem, rules_of}
+use Rattle.patr_library.proofs.Names.{AllByRecursion, Rules, some_inj, Shown, ValueIsHeld, EntryItem, IsEntryItem, rules_of}
 use Rattle.patr_library.proofs.tests.first_entry_is.Goals as goal
 
 held : (g : Rules) (v : Shown) (es : List EntryItem) (i : EntryItem) → AllByRecursion (IsEntryItem g v) es → slice_get es 0 ≡ Some i → ValueIsHeld v i.root

@@ -1,10 +1,5 @@
 use Rattle.std.proofs.Common.{◌≡◌, ◌∙◌, List, [], ◌∷◌, Some, slice_get, ap, sym, subst, rules}
-use Rattle.std.specs.List.{AllByRecursion}
-use Rattle.patr_model.specs.Derivation.{Rules}
-use Rattle.patr_model.proofs.Maps.{some_inj}
-use Rattle.patr_arena.specs.Shown.{IsHeld, Shown}
-use Rattle.patr_library.specs.declared.item.RuleItem.{RuleItem}
-use Rattle.patr_library.specs.Stored.{IsRuleItem, rules_of}
+use Rattle.patr_library.proofs.Names.{AllByRecursion, Rules, some_inj, IsHeld, Shown, RuleItem, IsRuleItem, rules_of}
 use Rattle.patr_library.proofs.tests.first_rule_is.Goals as goal
 
 held : (g : Rules) (v : Shown) (rs : List RuleItem) (i : RuleItem) → AllByRecursion (IsRuleItem g v) rs → slice_get rs 0 ≡ Some i → IsHeld v i.root.block i.root.offset

@@ -1,5 +1,5 @@
 use Rattle.std.proofs.Common.{sym, subst}
-use Rattle.patr_arena.specs.Shown.{ValueIsHeld}
+use Rattle.patr_library.proofs.Names.{ValueIsHeld}
 use Rattle.patr_arena.specs.Sentences.{sentence_of}
 use Rattle.patr_library.proofs.Keeping.{further}
 use Rattle.patr_library.proofs.KeptEntries.{value_still}
