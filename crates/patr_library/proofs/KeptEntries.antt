@@ -1,13 +1,12 @@
 -- What is kept of each variant of an entry.
-use Rattle.std.proofs.Common.{◌≡◌, inr, ℕ, suc, ◌+◌, ◌<◌, List, [], ◌∷◌, ◌++◌, length, length-append, map, take, get_or, Some, None, slice_get, refl, sym, ap, ◌∙◌, arith, subst, Vec, Global}
-use Rattle.patr_library.proofs.Names.{length-map, map-append, slice_get-get_or, AllByRecursion, sum_by, Node, arc, EntryVariant, variants, AreWithin, entries_fault, entry_fault, entry_variant_of, feature_variants, are_built, Id, Fault, features_seen, Entry, entry_seen, ExpandCause, number, lists_at, IsRefusedBy, Ref, Feature, Shown, IsShown, ValueIsHeld, ref_of, value_of, Extends, with_block, same_number, same_number_held, still_held, EntryItem, IsOwn, own_nodes, own_value, IsLeastAt, keys, HasBlock, all_numbered, numbered_from, AreEntriesDealt, IsEntryDealt, HasEntryItem, HasNoEntry, NumberedEntry, StaysAlone, entry_variants_of, variant_of}
+use Rattle.std.proofs.Common.{◌≡◌, inr, ℕ, suc, ◌+◌, List, [], ◌∷◌, ◌++◌, length, length-append, map, Some, slice_get, refl, sym, ap, ◌∙◌, arith, subst, Vec, Global}
+use Rattle.patr_library.proofs.Names.{length-map, map-append, AllByRecursion, sum_by, Node, arc, EntryVariant, variants, AreWithin, entry_variant_of, feature_variants, are_built, Id, features_seen, Entry, entry_seen, number, lists_at, Ref, Feature, Shown, IsShown, ValueIsHeld, ref_of, value_of, Extends, with_block, same_number, same_number_held, still_held, EntryItem, IsOwn, own_nodes, own_value, IsLeastAt, keys, HasBlock, numbered_from, IsEntryDealt, HasEntryItem, NumberedEntry, StaysAlone, entry_variants_of, variant_of}
 use Rattle.patr_model.specs.Productions as production
 use Rattle.patr_expand.specs.declared.equation.Equation.{Equation}
 use Rattle.patr_arena.specs.declared.value.Value as its
 use Rattle.patr_arena.specs.declared.value.Value.TheVariants as value
 use Rattle.patr_arena.specs.declared.value.Ref.TheVariants as ref
-use Rattle.patr_library.proofs.Keeping.{block_still, both_dealt, new_block}
-use Rattle.patr_library.proofs.KeptRules.{AreFirst, each_more, fault_here, taken_fault}
+use Rattle.patr_library.proofs.Keeping.{block_still, new_block}
 
 -- a new item of an entry's variant
 pub entry_dealt : (v w : Shown) (e k : ℕ) (x : EntryVariant) (nodes : List (List Feature)) (root : ℕ) (to : Ref) (b : ℕ) (at : its.Value) (n a : ℕ) (old new : List EntryItem) → IsShown v
@@ -107,26 +106,3 @@ all_alone e vs is =
     go : (us : List (Vec Equation Global)) → ((k : ℕ) (x : EntryVariant) → slice_get (map (variant_of e) us) k ≡ Some x → AreWithin 1 x.equations) → AllByRecursion (StaysAlone e) us
     go [] f = tt
     go (u ∷ us) f = (f 0 (variant_of e u) refl, go us (λ k x h. f (suc k) x h))
-
--- ---- the entries one after another
-
-entries_first : AreFirst (λ e. entry_fault (entry_seen e)) (λ es. entries_fault (map entry_seen es))
-entries_first = record { none = refl; more = λ e es. refl }
-
--- one more
-pub entries_next : (es : List Entry) (i : ℕ) (x : Entry) (v mid u : Shown) (old some new : List EntryItem) → i < length es → get_or es i x ≡ x
-    → AreEntriesDealt v mid (all_numbered 0 (map entry_variants_of (take i es))) old some → entries_fault (map entry_seen (take i es)) ≡ None
-    → AreEntriesDealt mid u (numbered_from i 0 (entry_variants_of x)) some new → entry_fault (entry_seen x) ≡ None
-    → AreEntriesDealt v u (all_numbered 0 (map entry_variants_of (take (i + 1) es))) old new × (entries_fault (map entry_seen (take (i + 1) es)) ≡ None)
-entries_next es i x v mid u old some new h is before fine here faultless =
-    let all = all_numbered 0 (map entry_variants_of (take i es)) in (
-      subst (λ ds. AreEntriesDealt v u ds old new) (sym (each_more entry_variants_of es i x h ∙ ap (λ y. all ++ numbered_from i 0 (entry_variants_of y)) is))
-          (both_dealt HasEntryItem HasNoEntry v mid u all (numbered_from i 0 (entry_variants_of x)) old some new before here),
-      taken_fault (λ e. entry_fault (entry_seen e)) (λ es. entries_fault (map entry_seen es)) entries_first es i x x h is fine faultless,
-    )
-
--- the first fault is that of this entry
-pub entry_fault_here : (es : List Entry) (i : ℕ) (x : Entry) (why : Fault ExpandCause) → i < length es → get_or es i x ≡ x → entries_fault (map entry_seen (take i es)) ≡ None → IsRefusedBy (entry_fault (entry_seen x)) why
-    → IsRefusedBy (entries_fault (map entry_seen es)) why
-entry_fault_here es i x why h is fine k =
-    fault_here (λ e. entry_fault (entry_seen e)) (λ es. entries_fault (map entry_seen es)) entries_first es i x why (slice_get-get_or es i x h ∙ ap (λ y. Some y) is) fine k

@@ -1,11 +1,12 @@
--- The items of all rules.
+-- The items of all rules, and of all entries.
 use Rattle.std.proofs.Common.{◌≡◌, ℕ, zero, suc, ◌+◌, ◌<◌, List, [], ◌∷◌, ◌++◌, length, map, take, get_or, Option, Some, None, slice_get, refl, sym, ap, ◌∙◌, arith, subst}
-use Rattle.patr_library.proofs.Names.{AllByRecursion, length-map, map-append, take_more, append-nil, append_assoc, length-take-le, AreWithin, SizeFault, first_fault, rule_fault, rules_fault, are_built, Id, Fault, some_inj, rule_seen, ExpandCause, number, equations_at, variant_at, variants_at, AreNumbered, IsRefusedBy, cause_seen, keys, numbered, numbered_from, all_numbered, variants_of, StaysWithin}
+use Rattle.patr_library.proofs.Names.{entries_fault, entry_fault, entry_seen, slice_get_within, get_or_from_slice_get, Shown, AreDealt, AllByRecursion, length-map, map-append, take_more, append-nil, append_assoc, length-take-le, AreWithin, SizeFault, first_fault, rule_fault, rules_fault, are_built, Id, Fault, some_inj, rule_seen, ExpandCause, number, equations_at, variant_at, variants_at, AreNumbered, IsRefusedBy, cause_seen, keys, numbered, numbered_from, all_numbered, variants_of, StaysWithin}
 use Rattle.patr_model.specs.Derivation as model
 use Rattle.patr_model.specs.Productions as production
 use Rattle.patr_text.specs.declared.fault.Fault.TheVariants.{Memory, Refused}
 use Rattle.patr_grammar.specs.declared.grammar.RuleText.{RuleText}
 use Rattle.patr_expand.specs.declared.variant.RuleVariant.{RuleVariant}
+use Rattle.patr_library.proofs.Keeping.{both_dealt}
 
 pub numbered_is : (n k : ℕ) (vs : List RuleVariant) → AreNumbered n k vs → numbered vs ≡ numbered_from n k (variants_at vs)
 numbered_is n k [] h = refl
@@ -24,19 +25,19 @@ variants_within r vs is =
     all_within vs (λ k x h. (are_built number keys g []).within.rules 0 k x (ap (λ l. slice_get l k) (sym is) ∙ h))
 
 -- one rule more, or one entry
-pub all_more : {X : Type 0} (n : ℕ) (vss : List (List X)) (vs : List X) → all_numbered n (vss ++ vs ∷ []) ≡ all_numbered n vss ++ numbered_from (n + length vss) 0 vs
+all_more : {X : Type 0} (n : ℕ) (vss : List (List X)) (vs : List X) → all_numbered n (vss ++ vs ∷ []) ≡ all_numbered n vss ++ numbered_from (n + length vss) 0 vs
 all_more n [] vs = append-nil (numbered_from n 0 vs) ∙ ap (λ m. numbered_from m 0 vs) (let e : n ≡ n + 0 = omega arith in e)
 all_more n (ws ∷ vss) vs =
     ap (λ l. numbered_from n 0 ws ++ l) (all_more (suc n) vss vs ∙ ap (λ m. all_numbered (suc n) vss ++ numbered_from m 0 vs) (let e : suc n + length vss ≡ n + suc (length vss) = omega arith in e))
     ∙ sym (append_assoc (numbered_from n 0 ws) (all_numbered (suc n) vss) (numbered_from (n + suc (length vss)) 0 vs))
 
-pub each_more : {X Y : Type 0} (f : X → List Y) (xs : List X) (i : ℕ) (d : X) → i < length xs → all_numbered 0 (map f (take (i + 1) xs)) ≡ all_numbered 0 (map f (take i xs)) ++ numbered_from i 0 (f (get_or xs i d))
+each_more : {X Y : Type 0} (f : X → List Y) (xs : List X) (i : ℕ) (d : X) → i < length xs → all_numbered 0 (map f (take (i + 1) xs)) ≡ all_numbered 0 (map f (take i xs)) ++ numbered_from i 0 (f (get_or xs i d))
 each_more f xs i d h =
     let long : length (map f (take i xs)) ≡ i = length-map (take i xs) f ∙ length-take-le i xs (omega (arith, h)) in
     ap (all_numbered 0) (ap (map f) (take_more xs i d h) ∙ map-append f (take i xs) (get_or xs i d ∷ []))
     ∙ (all_more 0 (map f (take i xs)) (f (get_or xs i d)) ∙ ap (λ m. all_numbered 0 (map f (take i xs)) ++ numbered_from m 0 (f (get_or xs i d))) (omega (arith, long)))
 
-pub none_first : (o : Option SizeFault) → o ≡ None → first_fault o None ≡ None
+none_first : (o : Option SizeFault) → o ≡ None → first_fault o None ≡ None
 none_first None h = refl
 none_first (Some f) h = h
 
@@ -45,7 +46,7 @@ pub record AreFirst {X : Type 0} (fault : X → Option SizeFault) (first : List 
   pub none : first [] ≡ None
   pub more : (x : X) (xs : List X) → first (x ∷ xs) ≡ first_fault (fault x) (first xs)
 
-module _ {X : Type 0} (fault : X → Option SizeFault) (all : List X → Option SizeFault) (are : AreFirst fault all) where
+module _ {X : Type 0} {fault : X → Option SizeFault} {all : List X → Option SizeFault} (are : AreFirst fault all) where
   fault_more : (xs ys : List X) → all xs ≡ None → all (xs ++ ys) ≡ all ys
   fault_more [] ys h = refl
   fault_more (x ∷ xs) ys h = are.more x (xs ++ ys) ∙ go (fault x) (λ k. fault_more xs ys k) (sym (are.more x xs) ∙ h)
@@ -55,7 +56,7 @@ module _ {X : Type 0} (fault : X → Option SizeFault) (all : List X → Option 
       go (Some f) rest k = cc
 
   -- as far as this one get_there is none
-  pub taken_fault : (xs : List X) (i : ℕ) (x : X) (d : X) → i < length xs → get_or xs i d ≡ x → all (take i xs) ≡ None → fault x ≡ None → all (take (i + 1) xs) ≡ None
+  taken_fault : (xs : List X) (i : ℕ) (x : X) (d : X) → i < length xs → get_or xs i d ≡ x → all (take i xs) ≡ None → fault x ≡ None → all (take (i + 1) xs) ≡ None
   taken_fault xs i x d h e fine here =
       ap all (take_more xs i d h)
       ∙ (fault_more (take i xs) (get_or xs i d ∷ []) fine
@@ -79,6 +80,22 @@ module _ {X : Type 0} (fault : X → Option SizeFault) (all : List X → Option 
       go (y ∷ ys) zero e f = are.more y ys ∙ first (fault y) (cause_seen c) (all ys) (ap fault (some_inj y x e) ∙ k)
       go (y ∷ ys) (suc j) e f = are.more y ys ∙ step (fault y) (all (take j ys)) (all ys) (cause_seen c) (sym (are.more y (take j ys)) ∙ f) (λ g. go ys j e g)
 
--- the faults of rules
+  -- what was dealt with, with this one
+  pub next_dealt : {Y I : Type 0} (good : Shown → ℕ × ℕ × Y → I → Type 0) (bad : ℕ × ℕ × Y → Type 0) (f : X → List Y) (xs : List X) (i : ℕ) (x : X) (v mid u : Shown) (old some new : List I) → slice_get xs i ≡ Some x
+      → AreDealt good bad v mid (all_numbered 0 (map f (take i xs))) old some × (all (take i xs) ≡ None) → AreDealt good bad mid u (numbered_from i 0 (f x)) some new → fault x ≡ None
+      → AreDealt good bad v u (all_numbered 0 (map f (take (i + 1) xs))) old new × (all (take (i + 1) xs) ≡ None)
+  next_dealt good bad f xs i x v mid u old some new e before here faultless =
+      let below = slice_get_within xs i x e in
+      let is = get_or_from_slice_get xs i x x e in
+      let so_far = all_numbered 0 (map f (take i xs)) in (
+        subst (λ ds. AreDealt good bad v u ds old new) (sym (each_more f xs i x below ∙ ap (λ y. so_far ++ numbered_from i 0 (f y)) is))
+            (both_dealt good bad v mid u so_far (numbered_from i 0 (f x)) old some new before.0 here),
+        taken_fault xs i x x below is before.1 faultless,
+      )
+
+-- the faults of rules, and of entries
 pub rules_first : AreFirst (λ r. rule_fault (rule_seen r)) (λ rs. rules_fault (map rule_seen rs))
 rules_first = record { none = refl; more = λ r rs. refl }
+
+pub entries_first : AreFirst (λ e. entry_fault (entry_seen e)) (λ es. entries_fault (map entry_seen es))
+entries_first = record { none = refl; more = λ e es. refl }
