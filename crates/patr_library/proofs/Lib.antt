@@ -1,12 +1,10 @@
 mod Corresponding
-mod EntryItems
 mod Imaging
 mod ItemsKept
 mod Keeping
 mod KeptEntries
 mod KeptRules
 mod Listed
-mod Listing
 mod Marking
 mod Merged
 mod Names
@@ -14,6 +12,4 @@ mod Owned
 mod Parts
 mod Placed
 mod Placing
-mod RuleItems
 mod Steps
-mod Unified
