@@ -1,6 +1,6 @@
 -- What is kept of each variant.
-use Rattle.std.proofs.Common.{◌≡◌, ◌⊎◌, inl, inr, ℕ, zero, suc, ◌+◌, ◌-◌, ◌<◌, List, [], ◌∷◌, ◌++◌, length, length-append, map, take, get_or, Some, slice_get, refl, sym, ap, ◌∙◌, arith, subst}
-use Rattle.patr_library.proofs.Names.{sum_by, length-map, map-append, take_more, append-nil, append_assoc, slice_get-map, slice_get_within, equations_at, variant_at, Feature, Addr, AllByRecursion, extends_on, Shown, IsShown, arcs_from, Extends, with_block, RuleItem, IsLeastAt, HasBlock, AreKept, IsDealt, AreDealt, IsRuleDealt, HasRuleItem, Numbered, numbered, StaysWithin}
+use Rattle.std.proofs.Common.{◌≡◌, ◌⊎◌, inl, inr, ℕ, ◌+◌, ◌-◌, ◌<◌, List, [], ◌∷◌, ◌++◌, length, length-append, map, take, get_or, Some, slice_get, refl, sym, ap, ◌∙◌, arith, subst}
+use Rattle.patr_library.proofs.Names.{sum_by, length-map, map-append, take_more, append-nil, append_assoc, slice_get-map, slice_get_within, equations_at, variant_at, Feature, Addr, extends_on, Shown, IsShown, arcs_from, Extends, with_block, RuleItem, IsLeastAt, HasBlock, AreKept, IsDealt, AreDealt, IsRuleDealt, HasRuleItem, Numbered, numbered}
 use Rattle.std.specs.Option.{option_map}
 use Rattle.patr_grammar.specs.declared.grammar.SymbolText.{SymbolText}
 use Rattle.patr_expand.specs.declared.variant.RuleVariant.{RuleVariant}
@@ -126,8 +126,3 @@ module _ {D I : Type 0} (good : Shown → D → I → Type 0) (bad : D → Type 
 
 pub numbered_more : (vs : List RuleVariant) (i : ℕ) (d : RuleVariant) → i < length vs → numbered (take (i + 1) vs) ≡ numbered (take i vs) ++ ((get_or vs i d).rule, (get_or vs i d).variant, variant_at (get_or vs i d)) ∷ []
 numbered_more vs i d h = ap numbered (take_more vs i d h) ∙ map-append (λ x. (x.rule, x.variant, variant_at x)) (take i vs) (get_or vs i d ∷ [])
-
-pub within_at : (vs : List RuleVariant) (i : ℕ) (d : RuleVariant) → AllByRecursion StaysWithin vs → i < length vs → StaysWithin (get_or vs i d)
-within_at [] i d a h = absurd (omega (arith, h))
-within_at (x ∷ vs) zero d a h = a.0
-within_at (x ∷ vs) (suc i) d a h = within_at vs i d a.1 (omega (arith, h))

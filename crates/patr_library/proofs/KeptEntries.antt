@@ -1,7 +1,8 @@
 -- What is kept of each variant of an entry.
-use Rattle.std.proofs.Common.{◌≡◌, inr, ℕ, suc, ◌+◌, List, [], ◌∷◌, ◌++◌, length, length-append, map, Some, slice_get, refl, sym, ap, ◌∙◌, arith, subst, Vec, Global}
+use Rattle.std.proofs.Common.{◌≡◌, inr, ℕ, suc, ◌+◌, List, [], ◌∷◌, ◌++◌, length, length-append, map, Some, slice_get, refl, sym, ap, ◌∙◌, arith, Vec, Global}
 use Rattle.patr_library.proofs.Names.{length-map, map-append, AllByRecursion, sum_by, Node, arc, EntryVariant, variants, AreWithin, entry_variant_of, feature_variants, are_built, Id, features_seen, Entry, entry_seen, number, lists_at, Ref, Feature, Shown, IsShown, ValueIsHeld, ref_of, value_of, Extends, with_block, same_number, same_number_held, still_held, EntryItem, IsOwn, own_nodes, own_value, IsLeastAt, keys, HasBlock, numbered_from, IsEntryDealt, HasEntryItem, NumberedEntry, StaysAlone, entry_variants_of, variant_of}
 use Rattle.patr_model.specs.Productions as production
+use Rattle.patr_grammar.specs.declared.grammar.Element.{Element}
 use Rattle.patr_expand.specs.declared.equation.Equation.{Equation}
 use Rattle.patr_arena.specs.declared.value.Value as its
 use Rattle.patr_arena.specs.declared.value.Value.TheVariants as value
@@ -74,13 +75,6 @@ entry_still v w e d i s =
 
 -- ---- the variants of one entry
 
-pub among : {X : Type 0} (P : X → Type 0) (ys zs : List X) (x : X) (all : List X) → ys ++ x ∷ zs ≡ all → AllByRecursion P all → P x
-among {X = X} P ys zs x all is h = go ys (subst (AllByRecursion P) (sym is) h)
-  where
-    go : (ys : List X) → AllByRecursion P (ys ++ x ∷ zs) → P x
-    go [] a = a.0
-    go (y ∷ ys) a = go ys a.1
-
 numbered_append : {X : Type 0} (n k : ℕ) (xs : List X) (x : X) → numbered_from n k (xs ++ x ∷ []) ≡ numbered_from n k xs ++ (n, k + length xs, x) ∷ []
 numbered_append n k [] x = ap (λ j. (n, j, x) ∷ []) (let e : k ≡ k + 0 = omega arith in e)
 numbered_append n k (y ∷ xs) x =
@@ -91,8 +85,8 @@ variant_more f n k xs x h =
     ap (numbered_from n 0) (map-append f xs (x ∷ []))
     ∙ (numbered_append n 0 (map f xs) (f x) ∙ ap (λ j. numbered_from n 0 (map f xs) ++ (n, j, f x) ∷ []) (let e : 0 + length (map f xs) ≡ k = omega (arith, length-map xs f, h) in e))
 
-pub variants_are : (e : Entry) (vs : List (Vec Equation Global)) → lists_at vs ≡ variants (feature_variants number) (features_seen e.features.items) → map (variant_of e) vs ≡ entry_variants_of e
-variants_are e vs is = go vs ∙ ap (map (entry_variant_of number keys (entry_seen e))) is
+pub variants_are : (e : Entry) (fs : List Element) (vs : List (Vec Equation Global)) → fs ≡ e.features.items → lists_at vs ≡ variants (feature_variants number) (features_seen fs) → map (variant_of e) vs ≡ entry_variants_of e
+variants_are e fs vs body is = go vs ∙ ap (map (entry_variant_of number keys (entry_seen e))) (is ∙ ap (λ l. variants (feature_variants number) (features_seen l)) body)
   where
     go : (us : List (Vec Equation Global)) → map (variant_of e) us ≡ map (entry_variant_of number keys (entry_seen e)) (lists_at us)
     go [] = refl

@@ -117,11 +117,6 @@ entries_there g l v (i ∷ es) h =
     let here = and_then_some (slice_get all i.entry) (λ vs. slice_get vs i.variant) h.0.variant h.0.is in
     (omega (arith, slice_get_within all i.entry here.0 here.1, ap length (entries_are g l), length-map l entry_variants_of), entries_there g l v es h.1)
 
-pub of_entry_at : (n : ℕ) (es : List EntryItem) (i : ℕ) (d : EntryItem) → AreOfEntries n es → i < length es → (get_or es i d).entry < n
-of_entry_at n [] i d h l = absurd (omega (arith, l))
-of_entry_at n (e ∷ es) zero d h l = h.0
-of_entry_at n (e ∷ es) (suc i) d h l = of_entry_at n es i d h.1 (omega (arith, l))
-
 -- no rule has a fault, so the first is that of the entries
 pub fault_is : (g : Grammar) (l : List Entry) → rules_fault (map rule_seen g.rules.items) ≡ None → build_fault (grammar_of g) (entries_of l) ≡ in_lexicon (entries_fault (map entry_seen l))
 fault_is g l h = ap (λ f. grammar_first f (in_lexicon (entries_fault (map entry_seen l)))) h

@@ -23,7 +23,7 @@ pub use Rattle.patr_library.specs.Solved.{HasNone, HasSlot, IsLeastAt, IsNew, Is
 pub use Rattle.patr_library.specs.Stored.{AreOfEntries, Bounds, HasItems, IsEntryItem, IsRuleItem, Rises, built_rules, entries_of, grammar_of, is_number, is_of_mother, is_of_word, keys, rules_of, word_at}
 pub use Rattle.patr_library.specs.declared.item.EntryItem.{EntryItem}
 pub use Rattle.patr_library.specs.declared.item.RuleItem.{RuleItem}
-pub use Rattle.patr_lists.proofs.Alls.{all_append, all_left, all_right, all_weaker}
+pub use Rattle.patr_lists.proofs.Alls.{all_append, all_at, all_get, all_left, all_right, all_weaker}
 pub use Rattle.patr_lists.proofs.Places.{get_last, get_left, get_there}
 pub use Rattle.patr_lists.specs.Numbers.{places, total}
 pub use Rattle.patr_marks.specs.Machine.{Has, own}

@@ -136,14 +136,14 @@ none_still slots es fs h = λ cs count. variant_steps.keeps_refusing cs es fs (h
 
 -- ---- the equations so far
 
-pub taken_more : {X : Type 0} (f : X → Equation) (xs : List X) (i : ℕ) (d : X) → i < length xs → map f (take (i + 1) xs) ≡ map f (take i xs) ++ f (get_or xs i d) ∷ []
-taken_more f xs i d h = ap (map f) (take_more xs i d h) ∙ map-append f (take i xs) (get_or xs i d ∷ [])
-
 pub all_of : {X : Type 0} (f : X → Equation) (xs : List X) (i : ℕ) → map f xs ≡ map f (take i xs) ++ map f (drop i xs)
 all_of f xs i = ap (map f) (sym (take-append-drop i xs)) ∙ map-append f (take i xs) (drop i xs)
 
-pub within_taken : {X : Type 0} (f : X → Equation) (n : ℕ) (xs : List X) (i : ℕ) → AreWithin n (map f xs) → AreWithin n (map f (take i xs))
-within_taken f n xs i w = within_left n (map f (take i xs)) (map f (drop i xs)) (subst (AreWithin n) (all_of f xs i) w)
+-- with one more
+pub taken_more : {X : Type 0} (f : X → Equation) (n : ℕ) (xs : List X) (i : ℕ) (x : X) → i < length xs → x ≡ get_or xs i x → AreWithin n (map f xs) → (map f (take (i + 1) xs) ≡ map f (take i xs) ++ f x ∷ []) × AreWithin n (map f (take i xs) ++ f x ∷ [])
+taken_more f n xs i x h is w =
+    let more = ap (map f) (take_more xs i x h) ∙ (map-append f (take i xs) (get_or xs i x ∷ []) ∙ ap (λ y. map f (take i xs) ++ f y ∷ []) (sym is)) in
+    (more, subst (AreWithin n) more (within_left n (map f (take (i + 1) xs)) (map f (drop (i + 1) xs)) (subst (AreWithin n) (all_of f xs (i + 1)) w)))
 
 -- ---- the first slot
 

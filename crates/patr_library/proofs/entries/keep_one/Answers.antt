@@ -1,5 +1,5 @@
-use Rattle.std.proofs.Common.{◌≡◌, ◌∙◌, ap, subst, rules}
-use Rattle.patr_library.proofs.Names.{variants, feature_variants, features_seen, shown_of, lists_at, number, numbered_from, AreEntriesDealt}
+use Rattle.std.proofs.Common.{◌≡◌, ap, subst, rules}
+use Rattle.patr_library.proofs.Names.{variants, shown_of, number, numbered_from, AreEntriesDealt}
 use Rattle.patr_library.proofs.KeptEntries.{all_alone, variants_are}
 use Rattle.patr_library.proofs.entries.keep_one.Goals as goal
 
@@ -7,13 +7,11 @@ pub keep_variants-requires : goal.keep_variants-requires
 keep_variants-requires c =
     let vs = c.in_ok-variants.variants.items in
     let body : c.deref.result.now ≡ c.args.entry.now.features.items = search rules in
-    let are : lists_at vs ≡ variants (feature_variants number) (features_seen c.args.entry.now.features.items) = c.in_ok-variants.ensures.variants ∙ ap (λ l. variants (feature_variants number) (features_seen l)) body in
-    record { few = c.in_ok-variants.ensures.few; alone = all_alone c.args.entry.now vs (variants_are c.args.entry.now vs are) }
+    record { few = c.in_ok-variants.ensures.few; alone = all_alone c.args.entry.now vs (variants_are c.args.entry.now c.deref.result.now vs body c.in_ok-variants.ensures.variants) }
 
 pub returns-clause-dealt : goal.returns-clause-dealt
 returns-clause-dealt c =
     let vs = c.in_ok-variants.variants.items in
     let body : c.deref.result.now ≡ c.args.entry.now.features.items = search rules in
-    let are : lists_at vs ≡ variants (feature_variants number) (features_seen c.args.entry.now.features.items) = c.in_ok-variants.ensures.variants ∙ ap (λ l. variants (feature_variants number) (features_seen l)) body in
     subst (λ ds. AreEntriesDealt (shown_of c.args.arena.now) (shown_of c.keep_variants.new.arena) ds c.args.items.now.items c.keep_variants.new.items.items)
-    (ap (numbered_from c.args.number 0) (variants_are c.args.entry.now vs are)) c.in_ok-keep_variants.ensures
+    (ap (numbered_from c.args.number 0) (variants_are c.args.entry.now c.deref.result.now vs body c.in_ok-variants.ensures.variants)) c.in_ok-keep_variants.ensures
