@@ -24,7 +24,7 @@ pub use Rattle.patr_library.specs.Stored.{AreOfEntries, Bounds, HasItems, IsEntr
 pub use Rattle.patr_library.specs.declared.item.EntryItem.{EntryItem}
 pub use Rattle.patr_library.specs.declared.item.RuleItem.{RuleItem}
 pub use Rattle.patr_lists.proofs.Alls.{all_append, all_at, all_get, all_left, all_right, all_weaker}
-pub use Rattle.patr_lists.proofs.Places.{get_last, get_left, get_there}
+pub use Rattle.patr_lists.proofs.Places.{get_cases, get_last, get_left, get_parts, get_there}
 pub use Rattle.patr_lists.specs.Numbers.{places, total}
 pub use Rattle.patr_marks.specs.Machine.{Has, own}
 pub use Rattle.patr_model.proofs.Maps.{and_then_some, below_more_places, carries_arc, maps_reflexive, maps_transitive, some_inj}
@@ -42,8 +42,8 @@ pub use Rattle.patr_model.specs.Variants.{AreWithin, IsLeastOf, IsWithin, RuleAt
 pub use Rattle.patr_text.specs.declared.fault.Fault.{Fault}
 pub use Rattle.patr_text.specs.declared.symbols.Id.{Id}
 pub use Rattle.patr_unify.specs.Copying.{IsMade}
-pub use Rattle.std.proofs.lemmas.List.{append-nil, append_assoc, drop_all, drop_more, get_or-append-add, get_or_append_left, get_or_read, length-map, length-replicate, length-set, length-take-le, map-append, nil_from_length, take-append-drop, take_all, take_more}
-pub use Rattle.std.proofs.lemmas.Option.{get_or_from_slice_get, slice_get-get_or, slice_get-map, slice_get_within}
+pub use Rattle.std.proofs.lemmas.List.{append-nil, append_assoc, drop_all, drop_more, get_or-append-add, get_or_append_left, get_or_past, get_or-set_other, get_or-set_same, get_or_push, get_or_read, length-map, length-replicate, length-set, length-take-le, map-append, nil_from_length, take-append-drop, take_all, take_more}
+pub use Rattle.std.proofs.lemmas.Option.{cond_some, get_or_from_slice_get, slice_get-get_or, slice_get-map, slice_get_within}
 pub use Rattle.std.proofs.lemmas.Result.{err_from_is_err_and}
 pub use Rattle.std.specs.List.{AllByRecursion, sum_by}
 pub use Rattle.std.specs.List.Sorted.{IsStrictlyIncreasing}

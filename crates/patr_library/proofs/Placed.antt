@@ -1,6 +1,6 @@
 -- Blocks without old addresses where they stand in an arena.
-use Rattle.std.proofs.Common.{◌≡◌, ◌⊎◌, inl, inr, ℕ, zero, suc, ◌+◌, ◌-◌, ◌<◌, ◌≤◌, Bool, true, false, cond, nat_eq, nat_lt, lt-ltb, le-ltb, ltb-true, ltb-false, List, [], ◌∷◌, ◌++◌, length, length-append, map, get_or, Option, Some, None, slice_get, refl, sym, ap, ◌∙◌, arith, subst}
-use Rattle.patr_library.proofs.Names.{length-map, get_or_append_left, get_or-append-add, Value, Node, Structure, along, IsBelow, IsValue, IsStructure, IsStrictlyIncreasing, Same, some_inj, Ref, Feature, Addr, Shown, IsShown, IsHeld, RefIsHeld, number_of, ref_of, arcs_from, IsBlock, OldIsHeld, OldRefIsHeld, LeadsBelow, attributes, with_block, still_held, same_number, same_number_held, block_extends, new_number, new_node, rising_distinct, own_value, own_arcs, own_nodes, IsOwn, AllOwn, IsOwnBlock, ArePlaces, offsets_of, shift, shifted, IsPlacedAt, IsImage, AreCopies, Corresponds}
+use Rattle.std.proofs.Common.{◌≡◌, inl, inr, ℕ, zero, suc, ◌+◌, ◌-◌, ◌<◌, ◌≤◌, Bool, true, false, cond, nat_eq, nat_lt, lt-ltb, le-ltb, ltb-true, ltb-false, List, [], ◌∷◌, ◌++◌, length, length-append, map, get_or, Option, Some, None, slice_get, refl, sym, ap, ◌∙◌, arith, subst}
+use Rattle.patr_library.proofs.Names.{get_parts, cond_some, length-map, get_or_append_left, get_or-append-add, Value, Node, Structure, along, IsBelow, IsValue, IsStructure, IsStrictlyIncreasing, Same, some_inj, Ref, Feature, Addr, Shown, IsShown, IsHeld, RefIsHeld, number_of, ref_of, arcs_from, IsBlock, OldIsHeld, OldRefIsHeld, LeadsBelow, attributes, with_block, still_held, same_number, same_number_held, block_extends, new_number, new_node, rising_distinct, own_value, own_arcs, own_nodes, IsOwn, AllOwn, IsOwnBlock, ArePlaces, offsets_of, shift, shifted, IsPlacedAt, IsImage, AreCopies, Corresponds}
 use Rattle.patr_arena.specs.declared.value.Ref.TheVariants as ref
 use Rattle.patr_library.proofs.Corresponding.{same, own_get}
 use Rattle.patr_library.proofs.Owned.{held_anywhere}
@@ -59,21 +59,17 @@ module _ (p m : ℕ) where
   unfolding to_own
   to_own_is n k h = first (nat_lt n p) refl h
     where
-      second : (b : Bool) → nat_lt (n - p) m ≡ b → p ≤ n → cond b (Some (n - p)) None ≡ Some k → (n ≡ p + k) × (k < m)
-      second true t l e = let s = some_inj (n - p) k e in let below = ltb-true (n - p) m t in (omega (arith, s, l), omega (arith, s, below))
-      second false t l e = cc
-
       first : (b : Bool) → nat_lt n p ≡ b → cond b None (cond (nat_lt (n - p) m) (Some (n - p)) None) ≡ Some k → (n ≡ p + k) × (k < m)
       first true t e = cc
-      first false t e = second (nat_lt (n - p) m) refl (ltb-false n p t) e
+      first false t e =
+          let s = cond_some (nat_lt (n - p) m) (n - p) k e in
+          let below = ltb-true (n - p) m s.0 in
+          let above = ltb-false n p t in
+          (omega (arith, s.1, above), omega (arith, s.1, below))
 
   from_own_is : (k n : ℕ) → from_own k ≡ Some n → (n ≡ p + k) × (k < m)
   unfolding from_own
-  from_own_is k n h = go (nat_lt k m) refl h
-    where
-      go : (b : Bool) → nat_lt k m ≡ b → cond b (Some (p + k)) None ≡ Some n → (n ≡ p + k) × (k < m)
-      go true t e = (sym (some_inj (p + k) n e), ltb-true k m t)
-      go false t e = cc
+  from_own_is k n h = let s = cond_some (nat_lt k m) (p + k) n h in (sym s.1, ltb-true k m s.0)
 
   own_image : (r : Ref) → IsOwn m r → IsImage to_own (shift p r) r
   own_image (ref.Atom c) h = refl
@@ -145,14 +141,6 @@ offsets_long : (b k n : ℕ) → length (offsets_of b k n) ≡ n
 offsets_long b k zero = refl
 offsets_long b k (suc n) = ap (λ m. suc m) (offsets_long b (suc k) n)
 
-get_append : {X : Type 0} (xs ys : List X) (n : ℕ) (x : X) → slice_get (xs ++ ys) n ≡ Some x → ((n < length xs) × (slice_get xs n ≡ Some x)) ⊎ ((i : ℕ) × (n ≡ length xs + i) × (slice_get ys i ≡ Some x))
-get_append [] ys n x h = inr (n, omega arith, h)
-get_append (y ∷ xs) ys zero x h = inl (omega arith, h)
-get_append {X = X} (y ∷ xs) ys (suc n) x h = elim (get_append xs ys n x h) as (λ _. ((suc n < suc (length xs)) × (slice_get xs n ≡ Some x)) ⊎ ((i : ℕ) × (suc n ≡ suc (length xs) + i) × (slice_get ys i ≡ Some x))) [
-  | inl i ↦ inl (omega (arith, i.0), i.1)
-  | inr i ↦ inr (i.0, omega (arith, i.1), i.2)
-]
-
 pub places_pushed : (v : Shown) → IsShown v → (nodes : List (List Feature)) → IsBlock nodes → OldIsHeld v nodes → (places : List Addr) → ArePlaces v places
     → ArePlaces (with_block v nodes) (places ++ offsets_of (length v.sizes) 0 (length nodes))
 places_pushed v s nodes block old places are =
@@ -160,8 +148,8 @@ places_pushed v s nodes block old places are =
     let more = block_extends v s nodes block old in
     record {
       long = omega (arith, length-append places (offsets_of (length v.sizes) 0 (length nodes)), offsets_long (length v.sizes) 0 (length nodes), are.long, length-append v.structure (map (arcs_from v (length v.sizes)) nodes), length-map nodes (arcs_from v (length v.sizes)));
-      each = λ n at e. elim (get_append places (offsets_of (length v.sizes) 0 (length nodes)) n at e) [
-        | inl h ↦ let a = are.each n at h.1 in (still_held v w more at.block at.offset a.0, same_number_held v w more at.block at.offset a.0 ∙ a.1)
+      each = λ n at e. elim (get_parts places (offsets_of (length v.sizes) 0 (length nodes)) n at e) [
+        | inl h ↦ let a = are.each n at h in (still_held v w more at.block at.offset a.0, same_number_held v w more at.block at.offset a.0 ∙ a.1)
         | inr h ↦
             let o = offset_at (length v.sizes) 0 (length nodes) h.0 at h.2 in
             let offset : at.offset ≡ h.0 = ap (λ (x : Addr). x.offset) o.0 ∙ (let e : 0 + h.0 ≡ h.0 = omega arith in e) in
