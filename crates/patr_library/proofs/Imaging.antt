@@ -3,7 +3,7 @@ use Rattle.std.proofs.Common.{◌≡◌, ◌⊎◌, inl, inr, ℕ, zero, suc, �
 use Rattle.patr_library.proofs.Names.{get_left, get_cases, get_or_push, get_or_past, map-append, get_or_append_left, take_more, get_last, Value, Atom, Node, Arc, Arcs, Structure, arcs_of, Same, some_inj, Ref, Feature, Shown, RefIsHeld, AllHeld, arc_from, arcs_from, ref_of, attributes, own_nodes, own_value, IsOwn, AllOwn, IsOwnBlock, IsRooted, IsImage, AreCopies, image_at, AreImages}
 use Rattle.patr_arena.specs.declared.value.Ref.TheVariants as ref
 use Rattle.patr_library.proofs.Corresponding.{same, same_copies}
-use Rattle.patr_library.proofs.Owned.{empty_own}
+use Rattle.patr_library.proofs.Placed.{empty_own}
 
 pub held_at : (v : Shown) (b : ℕ) (fs : List Feature) (i : ℕ) (d : Feature) → AllHeld v b fs → i < length fs → RefIsHeld v b (get_or fs i d).to
 held_at v b [] i d h l = absurd (omega (arith, l))

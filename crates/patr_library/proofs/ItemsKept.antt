@@ -8,8 +8,7 @@ use Rattle.patr_lists.specs.Members.{IsIn}
 use Rattle.patr_unify.specs.Deciding.{Counts}
 use Rattle.patr_arena.specs.declared.value.Ref.TheVariants as ref
 use Rattle.patr_library.proofs.Corresponding.{own_get}
-use Rattle.patr_library.proofs.Owned.{held_anywhere}
-use Rattle.patr_library.proofs.Placed.{placed_same, placed_new, placed_longer}
+use Rattle.patr_library.proofs.Placed.{held_anywhere, placed_same, placed_new, placed_longer}
 use Rattle.patr_library.proofs.Steps.{same_least}
 
 -- ---- the numbers of a block's nodes

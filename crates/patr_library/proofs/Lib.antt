@@ -2,13 +2,10 @@ mod Corresponding
 mod Imaging
 mod ItemsKept
 mod Keeping
-mod KeptEntries
-mod KeptRules
 mod Listed
 mod Marking
 mod Merged
 mod Names
-mod Owned
 mod Parts
 mod Placed
 mod Placing

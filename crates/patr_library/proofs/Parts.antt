@@ -1,9 +1,8 @@
 -- The unifier of two blocks, and the least value of two lists of equations, from one of each.
 use Rattle.std.proofs.Common.{◌≡◌, ℕ, suc, ◌+◌, List, [], ◌∷◌, ◌++◌, length, map, take, drop, Some, slice_get, refl, sym, ap, ◌∙◌, arith, subst, ◌<◌, length-append}
 use Rattle.patr_library.proofs.Names.{AllByRecursion, within_append, all_append, all_left, all_right, Value, Node, Structure, arc, IsValue, IsStructure, MapsInto, TakesBoth, IsUnifier, Equation, Holds, variant, RuleAt, IsLeastOf, AreWithin, some_inj, rule_carried, Feature, own_nodes, IsLeastAt, HasNone, IsUnified, TakeNone, Same, Ref, Shown, IsShown, number_of, ref_of, arcs_from, IsBlock, OldRefIsHeld, with_block, same_number, block_extends, new_number, IsMade, own_value, IsOwn, IsOwnBlock, IsRooted}
-use Rattle.patr_library.proofs.Placed.{own_structure, own_is_value, placed_same, placed_new, placed_longer, own_shift, ref_same}
+use Rattle.patr_library.proofs.Placed.{own_structure, own_is_value, placed_same, placed_new, placed_longer, own_shift, ref_same, held_anywhere}
 use Rattle.patr_library.proofs.Steps.{all_of, same_least, within_left, same_unifier}
-use Rattle.patr_library.proofs.Owned.{held_anywhere}
 use Rattle.patr_arena.specs.declared.value.Ref.TheVariants as ref
 
 -- a node has its slots but once

@@ -1,6 +1,6 @@
 use Rattle.std.proofs.Common.{arith}
 use Rattle.patr_library.proofs.Names.{err_from_is_err_and, get_there, shown_of, HasNoRule, HasRuleItem, variants_of}
-use Rattle.patr_library.proofs.KeptRules.{fault_here, next_dealt, rules_first}
+use Rattle.patr_library.proofs.Keeping.{fault_here, next_dealt, rules_first}
 use Rattle.patr_library.proofs.building.keep_rules.Goals as goal
 
 pub returns-in_err-keep_one-clause-refused : goal.returns-in_err-keep_one-clause-refused

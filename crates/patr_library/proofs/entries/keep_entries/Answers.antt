@@ -1,7 +1,6 @@
 use Rattle.std.proofs.Common.{◌≡◌, ◌∙◌, Some, ap, refl, arith, get_or, rules}
 use Rattle.patr_library.proofs.Names.{err_from_is_err_and, slice_get-get_or, shown_of, HasEntryItem, HasNoEntry, entry_variants_of}
-use Rattle.patr_library.proofs.Keeping.{none_dealt}
-use Rattle.patr_library.proofs.KeptRules.{entries_first, fault_here, next_dealt}
+use Rattle.patr_library.proofs.Keeping.{none_dealt, entries_first, fault_here, next_dealt}
 use Rattle.patr_library.proofs.entries.keep_entries.Goals as goal
 
 pub loop-number-init : goal.loop-number-init

@@ -1,6 +1,6 @@
 use Rattle.std.proofs.Common.{◌≡◌, arith, sym, subst, rules, length, Some}
 use Rattle.patr_library.proofs.Names.{Node, arc, shown_of, equations_at, IsOwn, own_nodes, own_value, IsLeastAt}
-use Rattle.patr_library.proofs.KeptEntries.{entry_dealt}
+use Rattle.patr_library.proofs.Keeping.{entry_dealt}
 use Rattle.patr_library.proofs.Steps.{first_slot}
 use Rattle.patr_library.proofs.entries.keep_entry.Goals as goal
 

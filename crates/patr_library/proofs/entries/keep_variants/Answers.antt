@@ -1,7 +1,6 @@
 use Rattle.std.proofs.Common.{◌≡◌, ◌∙◌, ◌++◌, ◌∷◌, [], length, length-append, map, refl, sym, ap, subst, rules, arith, append_assoc, append-nil}
 use Rattle.patr_library.proofs.Names.{AllByRecursion, all_right, into_iter_items, into_iter_len, nil_from_length, shown_of, numbered_from, AreEntriesDealt, HasEntryItem, HasNoEntry, StaysAlone, variant_of}
-use Rattle.patr_library.proofs.Keeping.{none_dealt, one_dealt}
-use Rattle.patr_library.proofs.KeptEntries.{entry_still, variant_more}
+use Rattle.patr_library.proofs.Keeping.{none_dealt, one_dealt, entry_still, variant_more}
 use Rattle.patr_library.proofs.entries.keep_variants.Goals as goal
 
 pub loop-features-init : goal.loop-features-init

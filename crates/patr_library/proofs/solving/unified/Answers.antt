@@ -1,6 +1,6 @@
 use Rattle.std.proofs.Common.{[], subst, rules}
 use Rattle.patr_library.proofs.Names.{Value, Structure, Node, Same, TakesBoth, shown_of, number_of, value_of, IsMade, IsRooted, own_nodes, own_value}
-use Rattle.patr_library.proofs.Owned.{held_anywhere}
+use Rattle.patr_library.proofs.Placed.{held_anywhere}
 use Rattle.patr_library.proofs.Steps.{same_none, still_new}
 use Rattle.patr_library.proofs.Parts.{blocks_unified, sides}
 use Rattle.patr_library.proofs.solving.unified.Goals as goal
