@@ -1,6 +1,6 @@
 -- What is kept of each variant of a rule and of an entry, and of all of them.
-use Rattle.std.proofs.Common.{◌≡◌, ◌⊎◌, inl, inr, ℕ, ◌+◌, ◌-◌, ◌<◌, List, [], ◌∷◌, ◌++◌, length, length-append, map, take, get_or, Some, slice_get, refl, sym, ap, ◌∙◌, arith, subst, zero, suc, Option, None, Vec, Global}
-use Rattle.patr_library.proofs.Names.{sum_by, length-map, map-append, take_more, append-nil, append_assoc, slice_get-map, slice_get_within, equations_at, variant_at, Feature, Addr, extends_on, Shown, IsShown, arcs_from, Extends, with_block, RuleItem, IsLeastAt, HasBlock, AreKept, IsDealt, AreDealt, IsRuleDealt, HasRuleItem, Numbered, numbered, entries_fault, entry_fault, entry_seen, get_or_from_slice_get, AllByRecursion, length-take-le, AreWithin, SizeFault, first_fault, rule_fault, rules_fault, are_built, Id, Fault, some_inj, rule_seen, ExpandCause, number, variants_at, AreNumbered, IsRefusedBy, cause_seen, keys, numbered_from, all_numbered, variants_of, StaysWithin, Node, arc, EntryVariant, variants, entry_variant_of, feature_variants, features_seen, Entry, lists_at, Ref, ValueIsHeld, ref_of, value_of, same_number, same_number_held, still_held, EntryItem, IsOwn, own_nodes, own_value, IsEntryDealt, HasEntryItem, NumberedEntry, StaysAlone, entry_variants_of, variant_of}
+use Rattle.std.proofs.Common.{drop, ◌≡◌, ◌⊎◌, inl, inr, ℕ, ◌+◌, ◌-◌, ◌<◌, List, [], ◌∷◌, ◌++◌, length, length-append, map, take, get_or, Some, slice_get, refl, sym, ap, ◌∙◌, arith, subst, suc, Option, None, Vec, Global}
+use Rattle.patr_library.proofs.Names.{drop_more, take-append-drop, sum_by, length-map, map-append, take_more, append-nil, append_assoc, slice_get-map, slice_get_within, equations_at, variant_at, Feature, Addr, extends_on, Shown, IsShown, arcs_from, Extends, with_block, RuleItem, IsLeastAt, HasBlock, AreKept, IsDealt, AreDealt, IsRuleDealt, HasRuleItem, Numbered, numbered, entries_fault, entry_fault, entry_seen, get_or_from_slice_get, AllByRecursion, length-take-le, AreWithin, SizeFault, first_fault, rule_fault, rules_fault, are_built, Id, Fault, rule_seen, ExpandCause, number, variants_at, AreNumbered, IsRefusedBy, keys, numbered_from, all_numbered, variants_of, StaysWithin, Node, arc, EntryVariant, variants, entry_variant_of, feature_variants, features_seen, Entry, lists_at, Ref, ValueIsHeld, ref_of, value_of, same_number, same_number_held, still_held, EntryItem, IsOwn, own_nodes, own_value, IsEntryDealt, HasEntryItem, NumberedEntry, StaysAlone, entry_variants_of, variant_of}
 use Rattle.std.specs.Option.{option_map}
 use Rattle.patr_grammar.specs.declared.grammar.SymbolText.{SymbolText}
 use Rattle.patr_expand.specs.declared.variant.RuleVariant.{RuleVariant}
@@ -195,20 +195,10 @@ module _ {X : Type 0} {fault : X → Option SizeFault} {all : List X → Option 
   -- the first fault is that of this one
   pub fault_here : (xs : List X) (i : ℕ) (x : X) (why : Fault ExpandCause) → slice_get xs i ≡ Some x → all (take i xs) ≡ None → IsRefusedBy (fault x) why → IsRefusedBy (all xs) why
   fault_here xs i x Memory h fine k = tt
-  fault_here xs i x (Refused c) h fine k = go xs i h fine
-    where
-      first : (o : Option SizeFault) (f : SizeFault) (rest : Option SizeFault) → o ≡ Some f → first_fault o rest ≡ Some f
-      first None f rest e = cc
-      first (Some g) f rest e = e
-
-      step : (o : Option SizeFault) (a b : Option SizeFault) (f : SizeFault) → first_fault o a ≡ None → (a ≡ None → b ≡ Some f) → first_fault o b ≡ Some f
-      step None a b f e rest = rest e
-      step (Some g) a b f e rest = cc
-
-      go : (ys : List X) (j : ℕ) → slice_get ys j ≡ Some x → all (take j ys) ≡ None → all ys ≡ Some (cause_seen c)
-      go [] j e f = cc
-      go (y ∷ ys) zero e f = are.more y ys ∙ first (fault y) (cause_seen c) (all ys) (ap fault (some_inj y x e) ∙ k)
-      go (y ∷ ys) (suc j) e f = are.more y ys ∙ step (fault y) (all (take j ys)) (all ys) (cause_seen c) (sym (are.more y (take j ys)) ∙ f) (λ g. go ys j e g)
+  fault_here xs i x (Refused c) h fine k =
+      let rest = drop (i + 1) xs in
+      let cut = drop_more xs i x (slice_get_within xs i x h) ∙ ap (λ y. y ∷ rest) (get_or_from_slice_get xs i x x h) in
+      ap all (sym (take-append-drop i xs) ∙ ap (λ l. take i xs ++ l) cut) ∙ (fault_more (take i xs) (x ∷ rest) fine ∙ (are.more x rest ∙ ap (λ o. first_fault o (all rest)) k))
 
   -- what was dealt with, with this one
   pub next_dealt : {Y I : Type 0} (good : Shown → ℕ × ℕ × Y → I → Type 0) (bad : ℕ × ℕ × Y → Type 0) (f : X → List Y) (xs : List X) (i : ℕ) (x : X) (v mid u : Shown) (old some new : List I) → slice_get xs i ≡ Some x

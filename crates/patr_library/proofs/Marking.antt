@@ -1,8 +1,7 @@
 -- Marks of the nodes that a value reaches, and the copies of those that are marked.
 use Rattle.std.proofs.Common.{◌≡◌, ◌⊎◌, inl, inr, ℕ, zero, suc, ◌+◌, ◌<◌, ◌≤◌, Bool, true, false, List, [], ◌∷◌, ◌++◌, length, length-append, get_or, set, drop, replicate, Option, Some, None, is_some, refl, sym, ap, ◌∙◌, subst, arith}
-use Rattle.patr_library.proofs.Names.{all_weaker, get_or-set_same, get_or-set_other, get_or_push, AllByRecursion, drop_more, get_or_append_left, length-replicate, length-set, Value, Atom, Node, Arcs, Structure, IsBelow, IsReached, IsStructure, IsValue, arc, arcs_of, at, and_then_some, below_more_places, some_inj, Has, Feature, Shown, arcs_from, ref_of, AreReached, HasCopy, HaveCopies, IsNextImage, image_at, with_mark, with_marks}
+use Rattle.patr_library.proofs.Names.{eq-or-lt_of_le, all_weaker, get_or-set_same, get_or-set_other, get_or_push, AllByRecursion, drop_more, get_or_append_left, length-replicate, length-set, Value, Atom, Node, Arcs, Structure, IsBelow, IsReached, IsStructure, IsValue, arc, arcs_of, at, and_then_some, below_more_places, some_inj, Has, Feature, Shown, arcs_from, ref_of, AreReached, HasCopy, HaveCopies, IsNextImage, image_at, with_mark, with_marks}
 use Rattle.std.proofs.lemmas.Bool.{cases_eq}
-use Rattle.std.proofs.Math.Nat.{eq-or-lt_of_le}
 use Rattle.patr_model.proofs.Alike as path
 use Rattle.patr_marks.proofs.Lists.{along_has, distinct_along}
 

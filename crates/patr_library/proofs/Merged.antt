@@ -1,6 +1,6 @@
 -- The items of rules and of entries are exactly the variants that have a solution, and they are found by key.
 use Rattle.std.proofs.Common.{◌≡◌, inl, inr, ℕ, List, length, map, Some, slice_get, refl, ap, ◌∙◌, [], ◌∷◌, sym, subst, zero, suc, ◌+◌, ◌<◌, Bool, cond, ◌++◌, take, get_or, None, arith}
-use Rattle.patr_library.proofs.Names.{AllByRecursion, Rules, RuleVariant, Begin, rule_variant, IsSolvable, AreWithin, variant_steps, Shown, IsShown, RuleItem, IsRuleItem, AreKept, HasNoRule, HasRuleItem, Numbered, all_numbered, EntryVariant, Leaf, entry_variant, Node, IsLeastValue, some_inj, number_of, ref_of, value_of, EntryItem, Bounds, IsEntryItem, HasEntryItem, HasNoEntry, NumberedEntry, length-map, map-append, take_more, slice_get_within, and_then_some, places, build_fault, rules_fault, entries_fault, grammar_first, in_lexicon, rule_variants, entry_variants, are_built, Id, rule_seen, Entry, entry_seen, has_key, AreOfEntries, HasItems, built_rules, grammar_of, entries_of, keys, word_at, is_number, is_of_word, is_of_mother, AreRulesDealt, variants_of, AreEntriesDealt, entry_variants_of, length-take-le}
+use Rattle.patr_library.proofs.Names.{all_weaker, AllByRecursion, Rules, RuleVariant, Begin, rule_variant, IsSolvable, AreWithin, variant_steps, Shown, IsShown, RuleItem, IsRuleItem, AreKept, HasNoRule, HasRuleItem, Numbered, all_numbered, EntryVariant, Leaf, entry_variant, Node, IsLeastValue, some_inj, number_of, ref_of, value_of, EntryItem, Bounds, IsEntryItem, HasEntryItem, HasNoEntry, NumberedEntry, length-map, map-append, take_more, slice_get_within, and_then_some, places, build_fault, rules_fault, entries_fault, grammar_first, in_lexicon, rule_variants, entry_variants, are_built, Id, rule_seen, Entry, entry_seen, has_key, AreOfEntries, HasItems, built_rules, grammar_of, entries_of, keys, word_at, is_number, is_of_word, is_of_mother, AreRulesDealt, variants_of, AreEntriesDealt, entry_variants_of, length-take-le}
 use Rattle.patr_model.proofs.Leaves.{leaves_are_rules}
 use Rattle.std.proofs.lemmas.Simd.{map-map}
 use Rattle.patr_grammar.specs.declared.grammar.Grammar.{Grammar}
@@ -111,11 +111,11 @@ has_items g l u v w rules entries s d e =
 
 -- each item is one of an entry that is there
 pub entries_there : (g : Grammar) (l : List Entry) (v : Shown) (es : List EntryItem) → AllByRecursion (IsEntryItem (built_rules g l) v) es → AreOfEntries (length l) es
-entries_there g l v [] h = tt
-entries_there g l v (i ∷ es) h =
+entries_there g l v = all_weaker (IsEntryItem (built_rules g l) v) (λ i. i.entry < length l)
+    (λ i item.
     let all = (built_rules g l).entries in
-    let here = and_then_some (slice_get all i.entry) (λ vs. slice_get vs i.variant) h.0.variant h.0.is in
-    (omega (arith, slice_get_within all i.entry here.0 here.1, ap length (entries_are g l), length-map l entry_variants_of), entries_there g l v es h.1)
+    let here = and_then_some (slice_get all i.entry) (λ vs. slice_get vs i.variant) item.variant item.is in
+    omega (arith, slice_get_within all i.entry here.0 here.1, ap length (entries_are g l), length-map l entry_variants_of))
 
 -- no rule has a fault, so the first is that of the entries
 pub fault_is : (g : Grammar) (l : List Entry) → rules_fault (map rule_seen g.rules.items) ≡ None → build_fault (grammar_of g) (entries_of l) ≡ in_lexicon (entries_fault (map entry_seen l))

@@ -42,6 +42,7 @@ pub use Rattle.patr_model.specs.Variants.{AreWithin, IsLeastOf, IsWithin, RuleAt
 pub use Rattle.patr_text.specs.declared.fault.Fault.{Fault}
 pub use Rattle.patr_text.specs.declared.symbols.Id.{Id}
 pub use Rattle.patr_unify.specs.Copying.{IsMade}
+pub use Rattle.std.proofs.Math.Nat.{eq-or-lt_of_le}
 pub use Rattle.std.proofs.lemmas.List.{append-nil, append_assoc, drop_all, drop_more, get_or-append-add, get_or_append_left, get_or_past, get_or-set_other, get_or-set_same, get_or_push, get_or_read, length-map, length-replicate, length-set, length-take-le, map-append, nil_from_length, take-append-drop, take_all, take_more}
 pub use Rattle.std.proofs.lemmas.Option.{cond_some, get_or_from_slice_get, slice_get-get_or, slice_get-map, slice_get_within}
 pub use Rattle.std.proofs.lemmas.Result.{err_from_is_err_and}
