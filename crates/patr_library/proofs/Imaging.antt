@@ -1,8 +1,8 @@
 -- Copies of the first places of a structure.
 use Rattle.std.proofs.Common.{◌≡◌, ◌⊎◌, inl, inr, ℕ, zero, suc, ◌+◌, ◌<◌, List, [], ◌∷◌, ◌++◌, length, length-append, map, get_or, take, Option, Some, None, slice_get, refl, sym, ap, ◌∙◌, arith, subst}
-use Rattle.patr_library.proofs.Names.{get_left, get_cases, get_or_push, get_or_past, map-append, get_or_append_left, take_more, get_last, Value, Atom, Node, Arc, Arcs, Structure, arcs_of, Same, some_inj, Ref, Feature, Shown, RefIsHeld, AllHeld, arc_from, arcs_from, ref_of, attributes, own_nodes, own_value, IsOwn, AllOwn, IsOwnBlock, IsRooted, IsImage, AreCopies, image_at, AreImages}
+use Rattle.patr_library.proofs.Names.{get_left, get_cases, get_or_push, get_or_past, map-append, get_or_append_left, take_more, get_last, Value, Node, Arc, Arcs, Structure, arcs_of, Same, some_inj, Ref, Feature, Shown, RefIsHeld, AllHeld, arc_from, arcs_from, ref_of, attributes, own_nodes, own_value, IsOwn, AllOwn, IsOwnBlock, IsRooted, IsImage, AreCopies, image_at, AreImages}
 use Rattle.patr_arena.specs.declared.value.Ref.TheVariants as ref
-use Rattle.patr_library.proofs.Corresponding.{same, same_copies}
+use Rattle.patr_library.proofs.Corresponding.{each_image, same, same_copies}
 use Rattle.patr_library.proofs.Placed.{empty_own}
 
 pub held_at : (v : Shown) (b : ℕ) (fs : List Feature) (i : ℕ) (d : Feature) → AllHeld v b fs → i < length fs → RefIsHeld v b (get_or fs i d).to
@@ -31,12 +31,7 @@ copies_attributes to (e ∷ es) [] h = absurd h
 copies_attributes to (e ∷ es) (f ∷ fs) h = ap (λ n. n ∷ map (λ e. e.attribute) es) h.0 ∙ ap (λ l. f.attribute.0 ∷ l) (copies_attributes to es fs h.2)
 
 image_own : (to : ℕ → Option ℕ) (m : ℕ) → ((n k : ℕ) → to n ≡ Some k → k < m) → (x : Value) (r : Ref) → IsImage to x r → IsOwn m r
-image_own to m b (Atom c) (ref.Atom d) h = tt
-image_own to m b (Node n) (ref.New k) h = b n k h
-image_own to m b (Atom c) (ref.Old at) h = absurd h
-image_own to m b (Atom c) (ref.New k) h = absurd h
-image_own to m b (Node n) (ref.Atom d) h = absurd h
-image_own to m b (Node n) (ref.Old at) h = absurd h
+image_own to m b = each_image to (λ x r. IsOwn m r) (λ c d h. tt) b
 
 copies_own : (to : ℕ → Option ℕ) (m : ℕ) → ((n k : ℕ) → to n ≡ Some k → k < m) → (es : Arcs) (fs : List Feature) → AreCopies to es fs → AllOwn m fs
 copies_own to m b [] [] h = tt
