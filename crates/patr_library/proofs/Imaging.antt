@@ -1,7 +1,6 @@
 -- Copies of the first places of a structure.
 use Rattle.std.proofs.Common.{◌≡◌, ◌⊎◌, inl, inr, ℕ, zero, suc, ◌+◌, ◌<◌, List, [], ◌∷◌, ◌++◌, length, length-append, map, get_or, take, Option, Some, None, slice_get, refl, sym, ap, ◌∙◌, arith, subst}
 use Rattle.patr_library.proofs.Names.{get_left, get_cases, get_or_push, get_or_past, map-append, get_or_append_left, take_more, get_last, Value, Node, Arc, Arcs, Structure, arcs_of, Same, some_inj, Ref, Feature, Shown, RefIsHeld, AllHeld, arc_from, arcs_from, ref_of, attributes, own_nodes, own_value, IsOwn, AllOwn, IsOwnBlock, IsRooted, IsImage, AreCopies, image_at, AreImages}
-use Rattle.patr_arena.specs.declared.value.Ref.TheVariants as ref
 use Rattle.patr_library.proofs.Corresponding.{each_image, same, same_copies}
 use Rattle.patr_library.proofs.Placed.{empty_own}
 

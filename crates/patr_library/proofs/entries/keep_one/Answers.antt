@@ -1,5 +1,5 @@
 use Rattle.std.proofs.Common.{◌≡◌, ap, subst, rules}
-use Rattle.patr_library.proofs.Names.{variants, shown_of, number, numbered_from, AreEntriesDealt}
+use Rattle.patr_library.proofs.Names.{shown_of, numbered_from, AreEntriesDealt}
 use Rattle.patr_library.proofs.Keeping.{all_alone, variants_are}
 use Rattle.patr_library.proofs.entries.keep_one.Goals as goal
 
