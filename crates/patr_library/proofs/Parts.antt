@@ -1,7 +1,7 @@
 -- The unifier of two blocks, and the least value of two lists of equations, from one of each.
 use Rattle.std.proofs.Common.{◌≡◌, ℕ, suc, ◌+◌, List, [], ◌∷◌, ◌++◌, length, map, take, drop, Some, slice_get, refl, sym, ap, ◌∙◌, arith, subst, ◌<◌, length-append}
-use Rattle.patr_library.proofs.Names.{AllByRecursion, within_append, all_append, all_left, all_right, Value, Node, Structure, arc, IsValue, IsStructure, MapsInto, TakesBoth, IsUnifier, Equation, Holds, variant, RuleAt, IsLeastOf, AreWithin, some_inj, rule_carried, Feature, own_nodes, IsLeastAt, HasNone, IsUnified, TakeNone, Same, Ref, Shown, IsShown, number_of, ref_of, arcs_from, IsBlock, OldRefIsHeld, with_block, same_number, block_extends, new_number, IsMade, own_value, IsOwn, IsOwnBlock, IsRooted}
-use Rattle.patr_library.proofs.Placed.{own_structure, own_is_value, placed_same, placed_new, placed_longer, own_shift, ref_same, held_anywhere}
+use Rattle.patr_library.proofs.Names.{AllByRecursion, within_append, all_append, all_left, all_right, Value, Node, Structure, arc, IsValue, IsStructure, MapsInto, TakesBoth, IsUnifier, Equation, Holds, variant, RuleAt, IsLeastOf, AreWithin, some_inj, rule_carried, Feature, own_nodes, IsLeastAt, HasNone, IsUnified, TakeNone, Same, Ref, Shown, IsShown, number_of, ref_of, arcs_from, IsBlock, with_block, same_number, block_extends, new_number, IsMade, own_value, IsOwn, IsOwnBlock, IsRooted}
+use Rattle.patr_library.proofs.Placed.{own_ref_held, own_structure, own_is_value, placed_same, placed_new, placed_longer, own_shift, ref_same, held_anywhere}
 use Rattle.patr_library.proofs.Steps.{all_of, same_least, within_left, same_unifier}
 use Rattle.patr_arena.specs.declared.value.Ref.TheVariants as ref
 
@@ -100,11 +100,6 @@ cut_at f slots xs front back i p q w =
     record { is = sym is; left = within_left slots (map f front) (map f back) both; right = within_right slots (map f front) (map f back) both }
 
 -- ---- the unifier of two blocks that stand in one arena
-
-own_ref_held : (v : Shown) (n : ℕ) (r : Ref) → IsOwn n r → OldRefIsHeld v r
-own_ref_held v n (ref.Atom c) h = tt
-own_ref_held v n (ref.Old at) h = absurd h
-own_ref_held v n (ref.New k) h = tt
 
 module _ (v : Shown) (s : IsShown v) (left : List (List Feature)) (own : IsOwnBlock left) where
   -- the last block

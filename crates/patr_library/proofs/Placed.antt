@@ -13,14 +13,14 @@ own_below n (f ∷ fs) h = (go f.to h.0, own_below n fs h.1)
     go (ref.Old at) h = tt
     go (ref.New k) h = h
 
+pub own_ref_held : (v : Shown) (n : ℕ) (r : Ref) → IsOwn n r → OldRefIsHeld v r
+own_ref_held v n (ref.Atom c) h = tt
+own_ref_held v n (ref.Old at) h = absurd h
+own_ref_held v n (ref.New k) h = tt
+
 pub own_old : (v : Shown) (n : ℕ) (fs : List Feature) → AllOwn n fs → AllOldHeld v fs
 own_old v n [] h = tt
-own_old v n (f ∷ fs) h = (go f.to h.0, own_old v n fs h.1)
-  where
-    go : (r : Ref) → IsOwn n r → OldRefIsHeld v r
-    go (ref.Atom c) h = tt
-    go (ref.Old at) h = absurd h
-    go (ref.New k) h = tt
+own_old v n (f ∷ fs) h = (own_ref_held v n f.to h.0, own_old v n fs h.1)
 
 -- a block without old addresses may stand behind whatever is shown
 pub held_anywhere : (v : Shown) (nodes : List (List Feature)) → IsOwnBlock nodes → OldIsHeld v nodes
@@ -172,14 +172,15 @@ placed_longer S N p nodes placed = record {
   each = λ k h. get_or_append_left S N [] (p + k) (omega (arith, h, placed.within)) ∙ placed.each k h;
 }
 
+-- where the block's nodes stand from a place on, its arcs lead there
+pub ref_shifted : (v : Shown) (b p m : ℕ) → ((o : ℕ) → number_of v b o ≡ p + o) → (r : Ref) → IsOwn m r → ref_of v b r ≡ shift p r
+ref_shifted v b p m e (ref.Atom c) h = refl
+ref_shifted v b p m e (ref.Old at) h = absurd h
+ref_shifted v b p m e (ref.New k) h = ap Node (e k)
+
 arcs_shifted : (v : Shown) (p m : ℕ) → ((o : ℕ) → number_of v (length v.sizes) o ≡ p + o) → (fs : List Feature) → AllOwn m fs → arcs_from v (length v.sizes) fs ≡ shifted p fs
 arcs_shifted v p m e [] h = refl
-arcs_shifted v p m e (f ∷ fs) h = ap (λ x. record { attribute = f.attribute.0; to = x } ∷ arcs_from v (length v.sizes) fs) (go f.to h.0) ∙ ap (λ es. record { attribute = f.attribute.0; to = shift p f.to } ∷ es) (arcs_shifted v p m e fs h.1)
-  where
-    go : (r : Ref) → IsOwn m r → ref_of v (length v.sizes) r ≡ shift p r
-    go (ref.Atom c) k = refl
-    go (ref.Old at) k = absurd k
-    go (ref.New j) k = ap Node (e j)
+arcs_shifted v p m e (f ∷ fs) h = ap (λ x. record { attribute = f.attribute.0; to = x } ∷ arcs_from v (length v.sizes) fs) (ref_shifted v (length v.sizes) p m e f.to h.0) ∙ ap (λ es. record { attribute = f.attribute.0; to = shift p f.to } ∷ es) (arcs_shifted v p m e fs h.1)
 
 pub placed_new : (v : Shown) → IsShown v → (nodes : List (List Feature)) → IsOwnBlock nodes → IsPlacedAt (with_block v nodes).structure (length v.structure) nodes
 placed_new v s nodes own =
@@ -241,6 +242,4 @@ ref_same v s nodes block old (ref.Old at) h = ap Node (same_number_held v (with_
 ref_same v s nodes block old (ref.New k) h = ap Node (same_number v (with_block v nodes) (block_extends v s nodes block old) (length v.sizes) k (omega arith))
 
 pub own_shift : (v : Shown) → IsShown v → (nodes : List (List Feature)) → IsOwnBlock nodes → (r : Ref) → IsOwn (length nodes) r → ref_of v (length v.sizes) r ≡ shift (length v.structure) r
-own_shift v s nodes own (ref.Atom c) h = refl
-own_shift v s nodes own (ref.Old at) h = absurd h
-own_shift v s nodes own (ref.New k) h = ap Node (new_number v s nodes own.block (held_anywhere v nodes own) k)
+own_shift v s nodes own = ref_shifted v (length v.sizes) (length v.structure) (length nodes) (new_number v s nodes own.block (held_anywhere v nodes own))
