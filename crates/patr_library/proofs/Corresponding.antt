@@ -1,14 +1,7 @@
 -- What corresponds is the same.
 use Rattle.std.proofs.Common.{◌≡◌, ℕ, zero, suc, Bool, true, false, cond, nat_eq, List, [], ◌∷◌, get_or, Option, Some, None, refl, sym, ap, ◌∙◌, arith, subst}
-use Rattle.std.proofs.lemmas.List.{length-map}
-use Rattle.patr_model.specs.Structure.{Value, Atom, Node, Arcs, Structure, along, arc, arcs_of, IsValue}
-use Rattle.patr_model.specs.Subsumption.{image, IsMap, Same}
-use Rattle.patr_model.proofs.Maps.{some_inj}
-use Rattle.patr_arena.specs.declared.value.Ref.{Ref}
+use Rattle.patr_library.proofs.Names.{Id, length-map, Value, Atom, Node, Arcs, Structure, along, arc, arcs_of, IsValue, image, IsMap, Same, some_inj, Ref, Feature, own_value, own_arcs, own_nodes, IsImage, AreCopies, Corresponds}
 use Rattle.patr_arena.specs.declared.value.Ref.TheVariants as ref
-use Rattle.patr_arena.specs.declared.value.Feature.{Feature}
-use Rattle.patr_library.specs.Own.{own_value, own_arcs, own_nodes}
-use Rattle.patr_library.specs.Copies.{IsImage, AreCopies, Corresponds}
 
 pub own_get : (nodes : List (List Feature)) (k : ℕ) → get_or (own_nodes nodes) k [] ≡ own_arcs (get_or nodes k [])
 own_get [] k = refl
@@ -25,13 +18,17 @@ is_node None x e = cc
 is_node (Some k) x e = (k, refl, some_inj (Node k) x e)
 
 module _ (to : ℕ → Option ℕ) where
+  -- what holds of copies that are atoms and of those that are nodes holds of all
+  pub each_image : (P : Value → Ref → Type 0) → ((c : ℕ) (d : Id) → c ≡ d.0 → P (Atom c) (ref.Atom d)) → ((n k : ℕ) → to n ≡ Some k → P (Node n) (ref.New k)) → (x : Value) (r : Ref) → IsImage to x r → P x r
+  each_image P atoms nodes (Atom c) (ref.Atom d) h = atoms c d h
+  each_image P atoms nodes (Node n) (ref.New k) h = nodes n k h
+  each_image P atoms nodes (Atom c) (ref.Old at) h = absurd h
+  each_image P atoms nodes (Atom c) (ref.New k) h = absurd h
+  each_image P atoms nodes (Node n) (ref.Atom d) h = absurd h
+  each_image P atoms nodes (Node n) (ref.Old at) h = absurd h
+
   forth_image : (x : Value) (r : Ref) → IsImage to x r → image (λ n. as_node (to n)) x ≡ Some (own_value r)
-  forth_image (Atom c) (ref.Atom d) h = ap (λ n. Some (Atom n)) h
-  forth_image (Node n) (ref.New k) h = ap as_node h
-  forth_image (Atom c) (ref.Old at) h = absurd h
-  forth_image (Atom c) (ref.New k) h = absurd h
-  forth_image (Node n) (ref.Atom d) h = absurd h
-  forth_image (Node n) (ref.Old at) h = absurd h
+  forth_image = each_image (λ x r. image (λ n. as_node (to n)) x ≡ Some (own_value r)) (λ c d h. ap (λ n. Some (Atom n)) h) (λ n k h. ap as_node h)
 
   -- an arc of the place is one of the copy
   forth_arc : (es : Arcs) (fs : List Feature) → AreCopies to es fs → (a : ℕ) (x : Value) → along es a ≡ Some x → (r : Ref) × IsImage to x r × (along (own_arcs fs) a ≡ Some (own_value r))
@@ -57,12 +54,7 @@ module _ (to : ℕ → Option ℕ) where
 
 module _ (S : Structure) (nodes : List (List Feature)) (to from : ℕ → Option ℕ) (c : Corresponds S nodes to from) where
   back_image : (x : Value) (r : Ref) → IsImage to x r → image (λ k. as_node (from k)) (own_value r) ≡ Some x
-  back_image (Atom c) (ref.Atom d) h = ap (λ n. Some (Atom n)) (sym h)
-  back_image (Node n) (ref.New k) h = ap as_node (c.forth n k h).2
-  back_image (Atom c) (ref.Old at) h = absurd h
-  back_image (Atom c) (ref.New k) h = absurd h
-  back_image (Node n) (ref.Atom d) h = absurd h
-  back_image (Node n) (ref.Old at) h = absurd h
+  back_image = each_image to (λ x r. image (λ k. as_node (from k)) (own_value r) ≡ Some x) (λ c d h. ap (λ n. Some (Atom n)) (sym h)) (λ n k h. ap as_node (c.forth n k h).2)
 
   forth_is_map : IsMap S (own_nodes nodes) (λ n. as_node (to n))
   forth_is_map = record {
@@ -96,12 +88,7 @@ module _ (S : Structure) (nodes : List (List Feature)) (to from : ℕ → Option
 -- ---- one more copy
 
 pub same_image : (to more : ℕ → Option ℕ) → ((n k : ℕ) → to n ≡ Some k → more n ≡ Some k) → (x : Value) (r : Ref) → IsImage to x r → IsImage more x r
-same_image to more m (Atom c) (ref.Atom d) h = h
-same_image to more m (Node n) (ref.New k) h = m n k h
-same_image to more m (Atom c) (ref.Old at) h = absurd h
-same_image to more m (Atom c) (ref.New k) h = absurd h
-same_image to more m (Node n) (ref.Atom d) h = absurd h
-same_image to more m (Node n) (ref.Old at) h = absurd h
+same_image to more m = each_image to (IsImage more) (λ c d h. h) m
 
 pub same_copies : (to more : ℕ → Option ℕ) → ((n k : ℕ) → to n ≡ Some k → more n ≡ Some k) → (es : Arcs) (fs : List Feature) → AreCopies to es fs → AreCopies more es fs
 same_copies to more m [] [] h = tt

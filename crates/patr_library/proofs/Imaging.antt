@@ -1,19 +1,8 @@
 -- Copies of the first places of a structure.
 use Rattle.std.proofs.Common.{◌≡◌, ◌⊎◌, inl, inr, ℕ, zero, suc, ◌+◌, ◌<◌, List, [], ◌∷◌, ◌++◌, length, length-append, map, get_or, take, Option, Some, None, slice_get, refl, sym, ap, ◌∙◌, arith, subst}
-use Rattle.std.proofs.lemmas.List.{map-append, get_or_append_left, take_more}
-use Rattle.patr_lists.proofs.Places.{get_last}
-use Rattle.patr_model.specs.Structure.{Value, Atom, Node, Arc, Arcs, Structure, arcs_of}
-use Rattle.patr_model.specs.Subsumption.{Same}
-use Rattle.patr_model.proofs.Maps.{some_inj}
-use Rattle.patr_arena.specs.declared.value.Ref.{Ref}
-use Rattle.patr_arena.specs.declared.value.Ref.TheVariants as ref
-use Rattle.patr_arena.specs.declared.value.Feature.{Feature}
-use Rattle.patr_arena.specs.Shown.{Shown, RefIsHeld, AllHeld, arc_from, arcs_from, ref_of}
-use Rattle.patr_arena.specs.Blocks.{attributes}
-use Rattle.patr_library.specs.Own.{own_nodes, own_value, IsOwn, AllOwn, IsOwnBlock, IsRooted}
-use Rattle.patr_library.specs.Copies.{IsImage, AreCopies, image_at, AreImages}
-use Rattle.patr_library.proofs.Corresponding.{same, same_copies}
-use Rattle.patr_library.proofs.Owned.{empty_own}
+use Rattle.patr_library.proofs.Names.{get_left, get_cases, get_or_push, get_or_past, map-append, get_or_append_left, take_more, get_last, Value, Node, Arc, Arcs, Structure, arcs_of, Same, some_inj, Ref, Feature, Shown, RefIsHeld, AllHeld, arc_from, arcs_from, ref_of, attributes, own_nodes, own_value, IsOwn, AllOwn, IsOwnBlock, IsRooted, IsImage, AreCopies, image_at, AreImages}
+use Rattle.patr_library.proofs.Corresponding.{each_image, same, same_copies}
+use Rattle.patr_library.proofs.Placed.{empty_own}
 
 pub held_at : (v : Shown) (b : ℕ) (fs : List Feature) (i : ℕ) (d : Feature) → AllHeld v b fs → i < length fs → RefIsHeld v b (get_or fs i d).to
 held_at v b [] i d h l = absurd (omega (arith, l))
@@ -41,12 +30,7 @@ copies_attributes to (e ∷ es) [] h = absurd h
 copies_attributes to (e ∷ es) (f ∷ fs) h = ap (λ n. n ∷ map (λ e. e.attribute) es) h.0 ∙ ap (λ l. f.attribute.0 ∷ l) (copies_attributes to es fs h.2)
 
 image_own : (to : ℕ → Option ℕ) (m : ℕ) → ((n k : ℕ) → to n ≡ Some k → k < m) → (x : Value) (r : Ref) → IsImage to x r → IsOwn m r
-image_own to m b (Atom c) (ref.Atom d) h = tt
-image_own to m b (Node n) (ref.New k) h = b n k h
-image_own to m b (Atom c) (ref.Old at) h = absurd h
-image_own to m b (Atom c) (ref.New k) h = absurd h
-image_own to m b (Node n) (ref.Atom d) h = absurd h
-image_own to m b (Node n) (ref.Old at) h = absurd h
+image_own to m b = each_image to (λ x r. IsOwn m r) (λ c d h. tt) b
 
 copies_own : (to : ℕ → Option ℕ) (m : ℕ) → ((n k : ℕ) → to n ≡ Some k → k < m) → (es : Arcs) (fs : List Feature) → AreCopies to es fs → AllOwn m fs
 copies_own to m b [] [] h = tt
@@ -57,44 +41,19 @@ copies_own to m b (e ∷ es) (f ∷ fs) h = (image_own to m b e.to f.to h.1, cop
 pub arcs_own : (S : Structure) (images : List (Option ℕ)) (nodes : List (List Feature)) → AreImages S images nodes → (es : Arcs) (fs : List Feature) → AreCopies (image_at images) es fs → AllOwn (length nodes) fs
 arcs_own S images nodes a es fs h = copies_own (image_at images) (length nodes) (λ n k e. (a.corresponds.forth n k e).0) es fs h
 
+pub copy_within : (images : List (Option ℕ)) (n k : ℕ) → image_at images n ≡ Some k → n < length images
+copy_within [] n k h = cc
+copy_within (o ∷ images) zero k h = omega arith
+copy_within (o ∷ images) (suc n) k h = omega (arith, copy_within images n k h)
+
+at_kept : (images : List (Option ℕ)) (x : Option ℕ) (n k : ℕ) → image_at images n ≡ Some k → image_at (images ++ x ∷ []) n ≡ Some k
+at_kept images x n k h = get_or_append_left images (x ∷ []) None n (copy_within images n k h) ∙ h
+
 at_push : (images : List (Option ℕ)) (x : Option ℕ) (n k : ℕ) → image_at (images ++ x ∷ []) n ≡ Some k → (image_at images n ≡ Some k) ⊎ ((n ≡ length images) × (x ≡ Some k))
 at_push [] x zero k h = inr (refl, h)
 at_push [] x (suc n) k h = cc
 at_push (y ∷ images) x zero k h = inl h
 at_push (y ∷ images) x (suc n) k h = elim (at_push images x n k h) as (λ _. (image_at images n ≡ Some k) ⊎ ((suc n ≡ suc (length images)) × (x ≡ Some k))) [ inl i ↦ inl i | inr i ↦ inr (ap (λ m. suc m) i.0, i.1) ]
-
-at_kept : (images : List (Option ℕ)) (x : Option ℕ) (n k : ℕ) → image_at images n ≡ Some k → image_at (images ++ x ∷ []) n ≡ Some k
-at_kept [] x zero k h = cc
-at_kept [] x (suc n) k h = cc
-at_kept (y ∷ images) x zero k h = h
-at_kept (y ∷ images) x (suc n) k h = at_kept images x n k h
-
-pub at_last : (images : List (Option ℕ)) (x : Option ℕ) → image_at (images ++ x ∷ []) (length images) ≡ x
-at_last [] x = refl
-at_last (y ∷ images) x = at_last images x
-
-get_push : (xs : List ℕ) (x k n : ℕ) → slice_get (xs ++ x ∷ []) k ≡ Some n → (slice_get xs k ≡ Some n) ⊎ ((k ≡ length xs) × (x ≡ n))
-get_push [] x zero n h = inr (refl, some_inj x n h)
-get_push [] x (suc k) n h = cc
-get_push (y ∷ xs) x zero n h = inl h
-get_push (y ∷ xs) x (suc k) n h = elim (get_push xs x k n h) as (λ _. (slice_get xs k ≡ Some n) ⊎ ((suc k ≡ suc (length xs)) × (x ≡ n))) [ inl i ↦ inl i | inr i ↦ inr (ap (λ m. suc m) i.0, i.1) ]
-
-get_kept : (xs : List ℕ) (x k n : ℕ) → slice_get xs k ≡ Some n → slice_get (xs ++ x ∷ []) k ≡ Some n
-get_kept [] x k n h = cc
-get_kept (y ∷ xs) x zero n h = h
-get_kept (y ∷ xs) x (suc k) n h = get_kept xs x k n h
-
-node_last : (nodes : List (List Feature)) (fs : List Feature) → get_or (nodes ++ fs ∷ []) (length nodes) [] ≡ fs
-node_last [] fs = refl
-node_last (x ∷ nodes) fs = node_last nodes fs
-
-no_image : (n : ℕ) → image_at [] n ≡ None
-no_image zero = refl
-no_image (suc n) = refl
-
-no_get : (n : ℕ) (xs : List ℕ) → xs ≡ [] → slice_get xs n ≡ None
-no_get n [] h = refl
-no_get n (x ∷ xs) h = cc
 
 pub no_images : (S : Structure) → AreImages S [] []
 no_images S = record {
@@ -102,8 +61,8 @@ no_images S = record {
   origins = [];
   long = refl;
   corresponds = record {
-    forth = λ n k e. let bad : None ≡ Some k = sym (no_image n) ∙ e in cc;
-    back = λ k n e. let bad : None ≡ Some n = sym (no_get k [] refl) ∙ e in cc;
+    forth = λ n k e. let bad : None ≡ Some k = sym (get_or_past [] n None (omega arith)) ∙ e in cc;
+    back = λ k n e. let bad : None ≡ Some n = e in cc;
   };
 }
 
@@ -138,7 +97,7 @@ images_some S images nodes fs a copies here own =
           | inl h ↦ let f = a.corresponds.forth n k h in (
             omega (arith, long, f.0),
             f.1,
-            get_kept origins (length images) k n f.2,
+            get_left origins (length images ∷ []) k n f.2,
             subst (AreCopies (image_at (images ++ Some (length nodes) ∷ [])) (arcs_of S (Node n))) (sym (get_or_append_left nodes (fs ∷ []) [] k f.0))
                 (same_copies (image_at images) (image_at (images ++ Some (length nodes) ∷ [])) more (arcs_of S (Node n)) (get_or nodes k []) f.3),
           )
@@ -147,13 +106,13 @@ images_some S images nodes fs a copies here own =
             omega (arith, here, h.0),
             ap (λ j. slice_get (origins ++ length images ∷ []) j) (sym at ∙ sym a.long) ∙ (get_last origins (length images) ∙ ap (λ m. Some m) (sym h.0)),
             subst (λ m. AreCopies (image_at (images ++ Some (length nodes) ∷ [])) (arcs_of S (Node m)) (get_or (nodes ++ fs ∷ []) k [])) (sym h.0)
-                (subst (AreCopies (image_at (images ++ Some (length nodes) ∷ [])) (arcs_of S (Node (length images)))) (sym (ap (λ j. get_or (nodes ++ fs ∷ []) j []) (sym at) ∙ node_last nodes fs))
+                (subst (AreCopies (image_at (images ++ Some (length nodes) ∷ [])) (arcs_of S (Node (length images)))) (sym (ap (λ j. get_or (nodes ++ fs ∷ []) j []) (sym at) ∙ get_or_push nodes fs [] (length nodes) refl))
                 (same_copies (image_at images) (image_at (images ++ Some (length nodes) ∷ [])) more (arcs_of S (Node (length images))) fs copies)),
           )
         ];
-        back = λ k n e. elim (get_push origins (length images) k n e) [
-          | inl h ↦ more n k (a.corresponds.back k n h)
-          | inr h ↦ ap (λ m. image_at (images ++ Some (length nodes) ∷ []) m) (sym h.1) ∙ (at_last images (Some (length nodes)) ∙ ap (λ j. Some j) (sym a.long ∙ sym h.0))
+        back = λ k n e. elim (get_cases origins (length images) k n e) [
+          | inl h ↦ more n k (a.corresponds.back k n h.1)
+          | inr h ↦ ap (λ m. image_at (images ++ Some (length nodes) ∷ []) m) (sym h.1) ∙ (get_or_push images (Some (length nodes)) None (length images) refl ∙ ap (λ j. Some j) (sym a.long ∙ sym h.0))
         ];
       };
     }

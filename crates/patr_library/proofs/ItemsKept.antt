@@ -1,32 +1,14 @@
 -- The least value of a block where the block stands in an arena, and what is reached from it.
 use Rattle.std.proofs.Common.{◌≡◌, inl, inr, ℕ, zero, suc, ◌+◌, ◌<◌, ◌≤◌, Bool, true, false, cond, nat_eq, List, [], ◌∷◌, length, length-append, get_or, Some, refl, sym, ap, ◌∙◌, arith, subst}
-use Rattle.std.specs.List.{sum_by}
-use Rattle.std.proofs.lemmas.List.{length-map, get_or-append-add}
+use Rattle.patr_library.proofs.Names.{sum_by, length-map, get_or-append-add, total, Value, Atom, Node, Structure, along, arc, at, Same, Equation, variant, RuleAt, IsLeastOf, AreWithin, some_inj, and_then_some, own, Ref, Feature, Shown, IsShown, IsHeld, number_of, ref_of, with_block, held_below, still_held, same_number, block_extends, new_number, own_arcs, own_nodes, own_value, IsOwn, AllOwn, IsOwnBlock, IsPlacedAt, shift, shifted, IsLeastAt, Bounds, HasBlock}
 use Rattle.std.proofs.lemmas.List.Sums.{sum_by-cons}
 use Rattle.patr_lists.proofs.Totals.{total_room}
 use Rattle.patr_lists.proofs.Members.{no_longer}
 use Rattle.patr_lists.specs.Members.{IsIn}
-use Rattle.patr_lists.specs.Numbers.{total}
-use Rattle.patr_model.specs.Structure.{Value, Atom, Node, Structure, along, arc, at}
-use Rattle.patr_model.specs.Subsumption.{Same}
-use Rattle.patr_model.specs.Equation.{Equation}
-use Rattle.patr_model.specs.Variants.{variant, RuleAt, IsLeastOf, AreWithin}
-use Rattle.patr_model.proofs.Maps.{some_inj, and_then_some}
-use Rattle.patr_marks.specs.Machine.{own}
 use Rattle.patr_unify.specs.Deciding.{Counts}
-use Rattle.patr_arena.specs.declared.value.Ref.{Ref}
 use Rattle.patr_arena.specs.declared.value.Ref.TheVariants as ref
-use Rattle.patr_arena.specs.declared.value.Feature.{Feature}
-use Rattle.patr_arena.specs.Shown.{Shown, IsShown, IsHeld, number_of, ref_of}
-use Rattle.patr_arena.specs.Blocks.{with_block}
-use Rattle.patr_arena.proofs.Showing.{held_below, still_held, same_number, block_extends, new_number}
-use Rattle.patr_library.specs.Own.{own_arcs, own_nodes, own_value, IsOwn, AllOwn, IsOwnBlock, IsPlacedAt, shift, shifted}
-use Rattle.patr_library.specs.Solved.{IsLeastAt}
-use Rattle.patr_library.specs.Stored.{Bounds}
-use Rattle.patr_library.specs.Built.{HasBlock}
 use Rattle.patr_library.proofs.Corresponding.{own_get}
-use Rattle.patr_library.proofs.Owned.{held_anywhere}
-use Rattle.patr_library.proofs.Placed.{placed_same, placed_new, placed_longer}
+use Rattle.patr_library.proofs.Placed.{ref_shifted, held_anywhere, placed_same, placed_new, placed_longer}
 use Rattle.patr_library.proofs.Steps.{same_least}
 
 -- ---- the numbers of a block's nodes
@@ -64,17 +46,17 @@ module _ (S : Structure) (p : ℕ) (nodes : List (List Feature)) (alone : IsOwnB
   Inside (Atom c) = Unit {0}
   Inside (Node n) = (i : ℕ) × (n ≡ p + i) × (i < length nodes)
 
+  own_inside : (n : ℕ) → n ≤ length nodes → (r : Ref) → IsOwn n r → Inside (shift p r)
+  own_inside n l (ref.Atom c) h = tt
+  own_inside n l (ref.Old at) h = absurd h
+  own_inside n l (ref.New k) h = (k, refl, omega (arith, h, l))
+
   inside_along : (n : ℕ) → n ≤ length nodes → (fs : List Feature) → AllOwn n fs → (a : ℕ) (x : Value) → along (shifted p fs) a ≡ Some x → Inside x
   inside_along n l [] h a x e = cc
   inside_along n l (f ∷ fs) h a x e = go (nat_eq f.attribute.0 a) (inside_along n l fs h.1 a x) e
     where
-      there : (r : Ref) → IsOwn n r → Inside (shift p r)
-      there (ref.Atom c) k = tt
-      there (ref.Old at) k = absurd k
-      there (ref.New j) k = (j, refl, omega (arith, k, l))
-
       go : (b : Bool) → (along (shifted p fs) a ≡ Some x → Inside x) → cond b (Some (shift p f.to)) (along (shifted p fs) a) ≡ Some x → Inside x
-      go true rest k = subst Inside (some_inj (shift p f.to) x k) (there f.to h.0)
+      go true rest k = subst Inside (some_inj (shift p f.to) x k) (own_inside n l f.to h.0)
       go false rest k = rest k
 
   inside_arc : (x : Value) → Inside x → (a : ℕ) (y : Value) → arc S x a ≡ Some y → Inside y
@@ -104,18 +86,12 @@ module _ (S : Structure) (p : ℕ) (nodes : List (List Feature)) (alone : IsOwnB
       let arcs = c.arcs_are in
       (omega (arith, long, size, count), omega (arith, weight, whole, arcs))
 
-  own_inside : (r : Ref) → IsOwn (length nodes) r → Inside (shift p r)
-  own_inside (ref.Atom c) h = tt
-  own_inside (ref.Old at) h = absurd h
-  own_inside (ref.New k) h = (k, refl, h)
-
   -- a value of the block, where it stands
-  moved : Value → Value
+  abbrev moved : Value → Value
   moved (Atom c) = Atom c
   moved (Node k) = Node (p + k)
 
   moved_is : (n : ℕ) (r : Ref) → IsOwn n r → shift p r ≡ moved (own_value r)
-  unfolding moved
   moved_is n (ref.Atom c) h = refl
   moved_is n (ref.Old at) h = absurd h
   moved_is n (ref.New k) h = refl
@@ -161,9 +137,7 @@ module _ (v : Shown) (s : IsShown v) (b : ℕ) (nodes : List (List Feature)) (ha
       subst (λ S. IsPlacedAt S place nodes) (sym has.extends.structure.1) (placed_longer w.structure has.extends.structure.0 place nodes (placed_new has.before has.shown nodes alone))
 
   block_value : (r : Ref) → IsOwn (length nodes) r → ref_of v b r ≡ shift place r
-  block_value (ref.Atom c) h = refl
-  block_value (ref.Old at) h = absurd h
-  block_value (ref.New k) h = ap Node (block_number k)
+  block_value = ref_shifted v b place (length nodes) block_number
 
   -- the node of the block is the same where it stands
   block_same : (o : ℕ) → o < length nodes → Same v.structure (Node (number_of v b o)) (own_nodes nodes) (Node o)
@@ -171,7 +145,7 @@ module _ (v : Shown) (s : IsShown v) (b : ℕ) (nodes : List (List Feature)) (ha
 
   pub block_bounds : (r : Ref) → IsOwn (length nodes) r → (n a : ℕ) → n ≡ length nodes → a ≡ sum_by length nodes → Bounds v (ref_of v b r) n a
   block_bounds r h n a count arcs = λ m c k.
-      let i = placed_bounds v.structure place nodes alone block_placed (shift place r) (own_inside v.structure place nodes alone block_placed r h) m c (subst (λ x. Counts v.structure x m c) (block_value r h) k) in
+      let i = placed_bounds v.structure place nodes alone block_placed (shift place r) (own_inside v.structure place nodes alone block_placed (length nodes) (omega arith) r h) m c (subst (λ x. Counts v.structure x m c) (block_value r h) k) in
       (omega (arith, i.0, count), omega (arith, i.1, arcs))
 
   -- an arc of a node of the block

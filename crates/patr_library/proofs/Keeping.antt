@@ -1,21 +1,18 @@
--- What is kept of each variant.
-use Rattle.std.proofs.Common.{◌≡◌, ◌⊎◌, inl, inr, ℕ, zero, suc, ◌+◌, ◌-◌, ◌<◌, List, [], ◌∷◌, ◌++◌, length, length-append, map, take, get_or, Some, slice_get, refl, sym, ap, ◌∙◌, arith, subst}
+-- What is kept of each variant of a rule and of an entry, and of all of them.
+use Rattle.std.proofs.Common.{drop, ◌≡◌, ◌⊎◌, inl, inr, ℕ, ◌+◌, ◌-◌, ◌<◌, List, [], ◌∷◌, ◌++◌, length, length-append, map, take, get_or, Some, slice_get, refl, sym, ap, ◌∙◌, arith, subst, suc, Option, None, Vec, Global}
+use Rattle.patr_library.proofs.Names.{drop_more, take-append-drop, sum_by, length-map, map-append, take_more, append-nil, append_assoc, slice_get-map, slice_get_within, equations_at, variant_at, Feature, Addr, extends_on, Shown, IsShown, arcs_from, Extends, with_block, RuleItem, IsLeastAt, HasBlock, AreKept, IsDealt, AreDealt, IsRuleDealt, HasRuleItem, Numbered, numbered, entries_fault, entry_fault, entry_seen, get_or_from_slice_get, AllByRecursion, length-take-le, AreWithin, SizeFault, first_fault, rule_fault, rules_fault, are_built, Id, Fault, rule_seen, ExpandCause, number, variants_at, AreNumbered, IsRefusedBy, keys, numbered_from, all_numbered, variants_of, StaysWithin, Node, arc, EntryVariant, variants, entry_variant_of, feature_variants, features_seen, Entry, lists_at, Ref, ValueIsHeld, ref_of, value_of, same_number, same_number_held, still_held, EntryItem, IsOwn, own_nodes, own_value, IsEntryDealt, HasEntryItem, NumberedEntry, StaysAlone, entry_variants_of, variant_of}
 use Rattle.std.specs.Option.{option_map}
-use Rattle.std.specs.List.{sum_by}
-use Rattle.std.proofs.lemmas.List.{length-map, map-append, take_more, append-nil, append_assoc}
-use Rattle.std.proofs.lemmas.Option.{slice_get-map, slice_get_within}
 use Rattle.patr_grammar.specs.declared.grammar.SymbolText.{SymbolText}
 use Rattle.patr_expand.specs.declared.variant.RuleVariant.{RuleVariant}
-use Rattle.patr_expand.specs.Seen.{equations_at, variant_at}
-use Rattle.patr_arena.specs.declared.value.Feature.{Feature}
-use Rattle.patr_arena.specs.declared.value.Addr.{Addr}
-use Rattle.std.specs.List.{AllByRecursion}
-use Rattle.patr_arena.proofs.Showing.{extends_on}
-use Rattle.patr_arena.specs.Shown.{Shown, IsShown, arcs_from}
-use Rattle.patr_arena.specs.Blocks.{Extends, with_block}
-use Rattle.patr_library.specs.declared.item.RuleItem.{RuleItem}
-use Rattle.patr_library.specs.Solved.{IsLeastAt}
-use Rattle.patr_library.specs.Built.{HasBlock, AreKept, IsDealt, AreDealt, IsRuleDealt, HasRuleItem, Numbered, numbered, StaysWithin}
+use Rattle.patr_text.specs.declared.fault.Fault.TheVariants.{Memory, Refused}
+use Rattle.patr_grammar.specs.declared.grammar.RuleText.{RuleText}
+use Rattle.patr_grammar.specs.declared.grammar.Element.{Element}
+use Rattle.patr_expand.specs.declared.equation.Equation.{Equation}
+use Rattle.patr_model.specs.Derivation as model
+use Rattle.patr_model.specs.Productions as production
+use Rattle.patr_arena.specs.declared.value.Value as its
+use Rattle.patr_arena.specs.declared.value.Value.TheVariants as value
+use Rattle.patr_arena.specs.declared.value.Ref.TheVariants as ref
 
 extends_self : (v : Shown) → Extends v v
 extends_self v = record { sizes = ([], sym (append-nil v.sizes)); structure = ([], sym (append-nil v.structure)) }
@@ -139,7 +136,180 @@ module _ {D I : Type 0} (good : Shown → D → I → Type 0) (bad : D → Type 
 pub numbered_more : (vs : List RuleVariant) (i : ℕ) (d : RuleVariant) → i < length vs → numbered (take (i + 1) vs) ≡ numbered (take i vs) ++ ((get_or vs i d).rule, (get_or vs i d).variant, variant_at (get_or vs i d)) ∷ []
 numbered_more vs i d h = ap numbered (take_more vs i d h) ∙ map-append (λ x. (x.rule, x.variant, variant_at x)) (take i vs) (get_or vs i d ∷ [])
 
-pub within_at : (vs : List RuleVariant) (i : ℕ) (d : RuleVariant) → AllByRecursion StaysWithin vs → i < length vs → StaysWithin (get_or vs i d)
-within_at [] i d a h = absurd (omega (arith, h))
-within_at (x ∷ vs) zero d a h = a.0
-within_at (x ∷ vs) (suc i) d a h = within_at vs i d a.1 (omega (arith, h))
+-- ---- all rules, and all entries
+
+pub numbered_is : (n k : ℕ) (vs : List RuleVariant) → AreNumbered n k vs → numbered vs ≡ numbered_from n k (variants_at vs)
+numbered_is n k [] h = refl
+numbered_is n k (v ∷ vs) h =
+    ap (λ r. (r, v.variant, variant_at v) ∷ numbered vs) h.0
+    ∙ (ap (λ j. (n, j, variant_at v) ∷ numbered vs) h.1 ∙ ap (λ l. (n, k, variant_at v) ∷ l) (numbered_is n (suc k) vs h.2))
+
+all_within : (vs : List RuleVariant) → ((k : ℕ) (x : model.RuleVariant) → slice_get (variants_at vs) k ≡ Some x → AreWithin (length x.categories) x.equations) → AllByRecursion StaysWithin vs
+all_within [] f = tt
+all_within (v ∷ vs) f = (subst (λ n. AreWithin n (equations_at v.equations.items)) (length-map v.symbols.items (λ y. y.category.0)) (f 0 (variant_at v) refl), all_within vs (λ k x h. f (suc k) x h))
+
+-- the variants of a rule stay within its constituents
+pub variants_within : (r : RuleText) (vs : List RuleVariant) → variants_at vs ≡ variants_of r → AllByRecursion StaysWithin vs
+variants_within r vs is =
+    let g : production.Grammar Id = record { rules = rule_seen r ∷ []; templates = []; lexical_rules = []; start = record { 0 = 0 }; restrictor = []; order = [] } in
+    all_within vs (λ k x h. (are_built number keys g []).within.rules 0 k x (ap (λ l. slice_get l k) (sym is) ∙ h))
+
+-- one rule more, or one entry
+all_more : {X : Type 0} (n : ℕ) (vss : List (List X)) (vs : List X) → all_numbered n (vss ++ vs ∷ []) ≡ all_numbered n vss ++ numbered_from (n + length vss) 0 vs
+all_more n [] vs = append-nil (numbered_from n 0 vs) ∙ ap (λ m. numbered_from m 0 vs) (let e : n ≡ n + 0 = omega arith in e)
+all_more n (ws ∷ vss) vs =
+    ap (λ l. numbered_from n 0 ws ++ l) (all_more (suc n) vss vs ∙ ap (λ m. all_numbered (suc n) vss ++ numbered_from m 0 vs) (let e : suc n + length vss ≡ n + suc (length vss) = omega arith in e))
+    ∙ sym (append_assoc (numbered_from n 0 ws) (all_numbered (suc n) vss) (numbered_from (n + suc (length vss)) 0 vs))
+
+each_more : {X Y : Type 0} (f : X → List Y) (xs : List X) (i : ℕ) (d : X) → i < length xs → all_numbered 0 (map f (take (i + 1) xs)) ≡ all_numbered 0 (map f (take i xs)) ++ numbered_from i 0 (f (get_or xs i d))
+each_more f xs i d h =
+    let long : length (map f (take i xs)) ≡ i = length-map (take i xs) f ∙ length-take-le i xs (omega (arith, h)) in
+    ap (all_numbered 0) (ap (map f) (take_more xs i d h) ∙ map-append f (take i xs) (get_or xs i d ∷ []))
+    ∙ (all_more 0 (map f (take i xs)) (f (get_or xs i d)) ∙ ap (λ m. all_numbered 0 (map f (take i xs)) ++ numbered_from m 0 (f (get_or xs i d))) (omega (arith, long)))
+
+none_first : (o : Option SizeFault) → o ≡ None → first_fault o None ≡ None
+none_first None h = refl
+none_first (Some f) h = h
+
+-- the first fault of a list of rules, or of one of entries
+pub record AreFirst {X : Type 0} (fault : X → Option SizeFault) (first : List X → Option SizeFault) : Type 0 where
+  pub none : first [] ≡ None
+  pub more : (x : X) (xs : List X) → first (x ∷ xs) ≡ first_fault (fault x) (first xs)
+
+module _ {X : Type 0} {fault : X → Option SizeFault} {all : List X → Option SizeFault} (are : AreFirst fault all) where
+  fault_more : (xs ys : List X) → all xs ≡ None → all (xs ++ ys) ≡ all ys
+  fault_more [] ys h = refl
+  fault_more (x ∷ xs) ys h = are.more x (xs ++ ys) ∙ go (fault x) (λ k. fault_more xs ys k) (sym (are.more x xs) ∙ h)
+    where
+      go : (o : Option SizeFault) → (all xs ≡ None → all (xs ++ ys) ≡ all ys) → first_fault o (all xs) ≡ None → first_fault o (all (xs ++ ys)) ≡ all ys
+      go None rest k = rest k
+      go (Some f) rest k = cc
+
+  -- as far as this one get_there is none
+  taken_fault : (xs : List X) (i : ℕ) (x : X) (d : X) → i < length xs → get_or xs i d ≡ x → all (take i xs) ≡ None → fault x ≡ None → all (take (i + 1) xs) ≡ None
+  taken_fault xs i x d h e fine here =
+      ap all (take_more xs i d h)
+      ∙ (fault_more (take i xs) (get_or xs i d ∷ []) fine
+      ∙ (are.more (get_or xs i d) [] ∙ (ap (λ o. first_fault (fault (get_or xs i d)) o) are.none ∙ none_first (fault (get_or xs i d)) (ap fault e ∙ here))))
+
+  -- the first fault is that of this one
+  pub fault_here : (xs : List X) (i : ℕ) (x : X) (why : Fault ExpandCause) → slice_get xs i ≡ Some x → all (take i xs) ≡ None → IsRefusedBy (fault x) why → IsRefusedBy (all xs) why
+  fault_here xs i x Memory h fine k = tt
+  fault_here xs i x (Refused c) h fine k =
+      let rest = drop (i + 1) xs in
+      let cut = drop_more xs i x (slice_get_within xs i x h) ∙ ap (λ y. y ∷ rest) (get_or_from_slice_get xs i x x h) in
+      ap all (sym (take-append-drop i xs) ∙ ap (λ l. take i xs ++ l) cut) ∙ (fault_more (take i xs) (x ∷ rest) fine ∙ (are.more x rest ∙ ap (λ o. first_fault o (all rest)) k))
+
+  -- what was dealt with, with this one
+  pub next_dealt : {Y I : Type 0} (good : Shown → ℕ × ℕ × Y → I → Type 0) (bad : ℕ × ℕ × Y → Type 0) (f : X → List Y) (xs : List X) (i : ℕ) (x : X) (v mid u : Shown) (old some new : List I) → slice_get xs i ≡ Some x
+      → AreDealt good bad v mid (all_numbered 0 (map f (take i xs))) old some × (all (take i xs) ≡ None) → AreDealt good bad mid u (numbered_from i 0 (f x)) some new → fault x ≡ None
+      → AreDealt good bad v u (all_numbered 0 (map f (take (i + 1) xs))) old new × (all (take (i + 1) xs) ≡ None)
+  next_dealt good bad f xs i x v mid u old some new e before here faultless =
+      let below = slice_get_within xs i x e in
+      let is = get_or_from_slice_get xs i x x e in
+      let so_far = all_numbered 0 (map f (take i xs)) in (
+        subst (λ ds. AreDealt good bad v u ds old new) (sym (each_more f xs i x below ∙ ap (λ y. so_far ++ numbered_from i 0 (f y)) is))
+            (both_dealt good bad v mid u so_far (numbered_from i 0 (f x)) old some new before.0 here),
+        taken_fault xs i x x below is before.1 faultless,
+      )
+
+-- the faults of rules, and of entries
+pub rules_first : AreFirst (λ r. rule_fault (rule_seen r)) (λ rs. rules_fault (map rule_seen rs))
+rules_first = record { none = refl; more = λ r rs. refl }
+
+pub entries_first : AreFirst (λ e. entry_fault (entry_seen e)) (λ es. entries_fault (map entry_seen es))
+entries_first = record { none = refl; more = λ e es. refl }
+
+-- ---- entries
+
+-- a new item of an entry's variant
+pub entry_dealt : (v w : Shown) (e k : ℕ) (x : EntryVariant) (nodes : List (List Feature)) (root : ℕ) (to : Ref) (b : ℕ) (at : its.Value) (n a : ℕ) (old new : List EntryItem) → IsShown v
+    → IsLeastAt 1 x.equations nodes root → w ≡ with_block v nodes → b ≡ length v.sizes → arc (own_nodes nodes) (Node root) 0 ≡ Some (own_value to) → IsOwn (length nodes) to
+    → value_of w at ≡ ref_of w b to → ValueIsHeld w at → n ≡ length nodes → a ≡ sum_by length nodes
+    → new ≡ old ++ record { entry = e; variant = k; root = at; nodes = n; arcs = a } ∷ []
+    → IsEntryDealt v w e k x old new
+entry_dealt v w e k x nodes root to b at n a old new s least is block slot own same held counted arcs more =
+    inr (
+      nodes,
+      is,
+      record { entry = e; variant = k; root = at; nodes = n; arcs = a },
+      more,
+      record {
+        entry_is = refl;
+        variant_is = refl;
+        nodes = nodes;
+        number = b;
+        slots = root;
+        to = to;
+        block = new_block v w nodes b s is block;
+        least = least;
+        slot = slot;
+        own = own;
+        root = same;
+        held = held;
+        nodes_are = counted;
+        arcs_are = arcs;
+      },
+    )
+
+-- ---- what stays where more stands behind it
+
+pub value_still : (v w : Shown) → Extends v w → (x : its.Value) → ValueIsHeld v x → ValueIsHeld w x × (value_of w x ≡ value_of v x)
+value_still v w e (value.Atom c) h = (tt, refl)
+value_still v w e (value.Node at) h = (still_held v w e at.block at.offset h, ap Node (same_number_held v w e at.block at.offset h))
+
+ref_still : (v w : Shown) → Extends v w → (b : ℕ) (nodes : List (List Feature)) → HasBlock v b nodes → (r : Ref) → IsOwn (length nodes) r → ref_of w b r ≡ ref_of v b r
+ref_still v w e b nodes h (ref.Atom c) own = refl
+ref_still v w e b nodes h (ref.Old at) own = absurd own
+ref_still v w e b nodes h (ref.New k) own =
+    let before = h.before.sizes in
+    let more = h.extends.sizes.0 in
+    ap Node (same_number v w e b k (omega (arith, h.number, ap length h.extends.sizes.1, length-append (before ++ length nodes ∷ []) more, length-append before (length nodes ∷ []))))
+
+pub entry_still : (v w : Shown) → Extends v w → (d : NumberedEntry) (i : EntryItem) → HasEntryItem v d i → HasEntryItem w d i
+entry_still v w e d i s =
+    let value = value_still v w e i.root s.held in
+    record {
+      entry_is = s.entry_is;
+      variant_is = s.variant_is;
+      nodes = s.nodes;
+      number = s.number;
+      slots = s.slots;
+      to = s.to;
+      block = block_still v w s.number s.nodes e s.block;
+      least = s.least;
+      slot = s.slot;
+      own = s.own;
+      root = value.1 ∙ (s.root ∙ sym (ref_still v w e s.number s.nodes s.block s.to s.own));
+      held = value.0;
+      nodes_are = s.nodes_are;
+      arcs_are = s.arcs_are;
+    }
+
+-- ---- the variants of one entry
+
+numbered_append : {X : Type 0} (n k : ℕ) (xs : List X) (x : X) → numbered_from n k (xs ++ x ∷ []) ≡ numbered_from n k xs ++ (n, k + length xs, x) ∷ []
+numbered_append n k [] x = ap (λ j. (n, j, x) ∷ []) (let e : k ≡ k + 0 = omega arith in e)
+numbered_append n k (y ∷ xs) x =
+    ap (λ l. (n, k, y) ∷ l) (numbered_append n (suc k) xs x ∙ ap (λ j. numbered_from n (suc k) xs ++ (n, j, x) ∷ []) (let e : suc k + length xs ≡ k + suc (length xs) = omega arith in e))
+
+pub variant_more : {X Y : Type 0} (f : X → Y) (n k : ℕ) (xs : List X) (x : X) → k ≡ length xs → numbered_from n 0 (map f (xs ++ x ∷ [])) ≡ numbered_from n 0 (map f xs) ++ (n, k, f x) ∷ []
+variant_more f n k xs x h =
+    ap (numbered_from n 0) (map-append f xs (x ∷ []))
+    ∙ (numbered_append n 0 (map f xs) (f x) ∙ ap (λ j. numbered_from n 0 (map f xs) ++ (n, j, f x) ∷ []) (let e : 0 + length (map f xs) ≡ k = omega (arith, length-map xs f, h) in e))
+
+pub variants_are : (e : Entry) (fs : List Element) (vs : List (Vec Equation Global)) → fs ≡ e.features.items → lists_at vs ≡ variants (feature_variants number) (features_seen fs) → map (variant_of e) vs ≡ entry_variants_of e
+variants_are e fs vs body is = go vs ∙ ap (map (entry_variant_of number keys (entry_seen e))) (is ∙ ap (λ l. variants (feature_variants number) (features_seen l)) body)
+  where
+    go : (us : List (Vec Equation Global)) → map (variant_of e) us ≡ map (entry_variant_of number keys (entry_seen e)) (lists_at us)
+    go [] = refl
+    go (u ∷ us) = ap (λ l. variant_of e u ∷ l) (go us)
+
+pub all_alone : (e : Entry) (vs : List (Vec Equation Global)) → map (variant_of e) vs ≡ entry_variants_of e → AllByRecursion (StaysAlone e) vs
+all_alone e vs is =
+    let g : production.Grammar Id = record { rules = []; templates = []; lexical_rules = []; start = record { 0 = 0 }; restrictor = []; order = [] } in
+    go vs (λ k x h. (are_built number keys g (entry_seen e ∷ [])).within.entries 0 k x (ap (λ l. slice_get l k) (sym is) ∙ h))
+  where
+    go : (us : List (Vec Equation Global)) → ((k : ℕ) (x : EntryVariant) → slice_get (map (variant_of e) us) k ≡ Some x → AreWithin 1 x.equations) → AllByRecursion (StaysAlone e) us
+    go [] f = tt
+    go (u ∷ us) f = (f 0 (variant_of e u) refl, go us (λ k x h. f (suc k) x h))

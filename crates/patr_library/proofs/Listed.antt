@@ -1,11 +1,6 @@
 -- What lists of kept items have, by what was dealt with.
 use Rattle.std.proofs.Common.{◌≡◌, ◌⊎◌, inl, inr, ℕ, zero, suc, ◌+◌, ◌<◌, List, [], ◌∷◌, ◌++◌, map, Some, slice_get, option_and_then, refl, sym, ap, ◌∙◌, arith, subst}
-use Rattle.std.specs.List.{AllByRecursion}
-use Rattle.patr_lists.proofs.Alls.{all_weaker, all_append}
-use Rattle.patr_lists.proofs.Places.{get_left}
-use Rattle.patr_model.proofs.Maps.{some_inj, and_then_some}
-use Rattle.patr_library.specs.Stored.{Rises}
-use Rattle.patr_library.specs.Built.{AreKept, numbered_from, all_numbered}
+use Rattle.patr_library.proofs.Names.{AllByRecursion, all_weaker, all_append, get_left, some_inj, and_then_some, Rises, AreKept, numbered_from, all_numbered}
 
 -- ---- what is kept
 
@@ -20,32 +15,26 @@ module _ {D I : Type 0} (good : D → I → Type 0) (bad : D → Type 0) where
     | inr h ↦ (f d i q.0 h.0, kept_all Q P f ds is q.1 h.1)
   ]
 
-  Kept : List I → D → Type 0
+  abbrev Kept : List I → D → Type 0
   Kept is d = bad d ⊎ ((m : ℕ) × (i : I) × (slice_get is m ≡ Some i) × good d i)
 
   later : (i : I) (is : List I) (d : D) → Kept is d → Kept (i ∷ is) d
-  unfolding Kept
   later i is d (inl b) = inl b
   later i is d (inr h) = inr (suc h.0, h.1, h.2, h.3)
 
-  found : (ds : List D) (is : List I) → AreKept good bad ds is → (n : ℕ) (d : D) → slice_get ds n ≡ Some d → Kept is d
-  unfolding Kept
-  found [] is k n d h = cc
-  found (x ∷ ds) [] k zero d h = inl (subst bad (some_inj x d h) k.0)
-  found (x ∷ ds) [] k (suc n) d h = found ds [] k.1 n d h
-  found (x ∷ ds) (i ∷ is) k zero d h = elim k as (λ _. Kept (i ∷ is) d) [
+  -- of each member there is an item, or it has none
+  pub kept_every : (ds : List D) (is : List I) → AreKept good bad ds is → (n : ℕ) (d : D) → slice_get ds n ≡ Some d → Kept is d
+  kept_every [] is k n d h = cc
+  kept_every (x ∷ ds) [] k zero d h = inl (subst bad (some_inj x d h) k.0)
+  kept_every (x ∷ ds) [] k (suc n) d h = kept_every ds [] k.1 n d h
+  kept_every (x ∷ ds) (i ∷ is) k zero d h = elim k as (λ _. Kept (i ∷ is) d) [
     | inl b ↦ inl (subst bad (some_inj x d h) b.0)
     | inr g ↦ inr (0, i, refl, subst (λ y. good y i) (some_inj x d h) g.0)
   ]
-  found (x ∷ ds) (i ∷ is) k (suc n) d h = elim k as (λ _. Kept (i ∷ is) d) [
-    | inl b ↦ found ds (i ∷ is) b.1 n d h
-    | inr g ↦ later i is d (found ds is g.1 n d h)
+  kept_every (x ∷ ds) (i ∷ is) k (suc n) d h = elim k as (λ _. Kept (i ∷ is) d) [
+    | inl b ↦ kept_every ds (i ∷ is) b.1 n d h
+    | inr g ↦ later i is d (kept_every ds is g.1 n d h)
   ]
-
-  -- of each member there is an item, or it has none
-  pub kept_every : (ds : List D) (is : List I) → AreKept good bad ds is → (n : ℕ) (d : D) → slice_get ds n ≡ Some d → bad d ⊎ ((m : ℕ) × (i : I) × (slice_get is m ≡ Some i) × good d i)
-  unfolding Kept
-  kept_every = found
 
 -- ---- pairs that rise
 
@@ -83,7 +72,7 @@ get_right (y ∷ xs) ys n x h = let r = get_right xs ys n x h in (suc r.0, r.1)
 
 module _ {V : Type 0} where
   -- the member with these numbers, the first list having number n
-  IsMember : ℕ → List (List V) → ℕ × ℕ × V → Type 0
+  abbrev IsMember : ℕ → List (List V) → ℕ × ℕ × V → Type 0
   IsMember n vss d = (j : ℕ) × (d.0 ≡ n + j) × (option_and_then (λ vs. slice_get vs d.1) (slice_get vss j) ≡ Some d.2)
 
   numbered_are : (n k : ℕ) (vs : List V) (P : ℕ × ℕ × V → Type 0) → ((j : ℕ) (x : V) → slice_get vs j ≡ Some x → P (n, k + j, x)) → AllByRecursion P (numbered_from n k vs)
@@ -94,7 +83,6 @@ module _ {V : Type 0} where
   )
 
   are_members : (n : ℕ) (vss : List (List V)) → AllByRecursion (IsMember n vss) (all_numbered n vss)
-  unfolding IsMember
   are_members n [] = tt
   are_members n (vs ∷ vss) =
       all_append (IsMember n (vs ∷ vss)) (numbered_from n 0 vs) (all_numbered (suc n) vss)
@@ -103,7 +91,6 @@ module _ {V : Type 0} where
 
   -- each has the numbers of its place
   pub all_members : (vss : List (List V)) → AllByRecursion (λ d. option_and_then (λ vs. slice_get vs d.1) (slice_get vss d.0) ≡ Some d.2) (all_numbered 0 vss)
-  unfolding IsMember
   all_members vss = all_weaker (IsMember 0 vss) (λ d. option_and_then (λ vs. slice_get vs d.1) (slice_get vss d.0) ≡ Some d.2)
       (λ d i. subst (λ m. option_and_then (λ vs. slice_get vs d.1) (slice_get vss m) ≡ Some d.2) (let e : i.0 ≡ d.0 = omega (arith, i.1) in e) i.2) (all_numbered 0 vss) (are_members 0 vss)
 
@@ -119,7 +106,6 @@ module _ {V : Type 0} where
   )
 
   all_rise : (n : ℕ) (vss : List (List V)) → RisesBy (λ d. (d.0, d.1)) (all_numbered n vss)
-  unfolding IsMember
   all_rise n [] = tt
   all_rise n (vs ∷ vss) =
       rises_on (λ d. (d.0, d.1)) (numbered_from n 0 vs) (all_numbered (suc n) vss) (one_rises n 0 vs) (all_rise (suc n) vss)

@@ -1,16 +1,9 @@
 -- Marks of the nodes that a value reaches, and the copies of those that are marked.
 use Rattle.std.proofs.Common.{◌≡◌, ◌⊎◌, inl, inr, ℕ, zero, suc, ◌+◌, ◌<◌, ◌≤◌, Bool, true, false, List, [], ◌∷◌, ◌++◌, length, length-append, get_or, set, drop, replicate, Option, Some, None, is_some, refl, sym, ap, ◌∙◌, subst, arith}
-use Rattle.std.specs.List.{AllByRecursion}
-use Rattle.std.proofs.lemmas.List.{drop_more, get_or_append_left, length-replicate, length-set}
-use Rattle.patr_model.specs.Structure.{Value, Atom, Node, Arcs, Structure, IsBelow, IsReached, IsStructure, IsValue, arc, arcs_of, at}
+use Rattle.patr_library.proofs.Names.{eq-or-lt_of_le, all_weaker, get_or-set_same, get_or-set_other, get_or_push, AllByRecursion, drop_more, get_or_append_left, length-replicate, length-set, Value, Atom, Node, Arcs, Structure, IsBelow, IsReached, IsStructure, IsValue, arc, arcs_of, at, and_then_some, below_more_places, some_inj, Has, Feature, Shown, arcs_from, ref_of, AreReached, HasCopy, HaveCopies, IsNextImage, image_at, with_mark, with_marks}
+use Rattle.std.proofs.lemmas.Bool.{cases_eq}
 use Rattle.patr_model.proofs.Alike as path
-use Rattle.patr_model.proofs.Maps.{and_then_some, below_more_places, some_inj}
-use Rattle.patr_marks.specs.Machine.{Has}
 use Rattle.patr_marks.proofs.Lists.{along_has, distinct_along}
-use Rattle.patr_arena.specs.declared.value.Feature.{Feature}
-use Rattle.patr_arena.specs.Shown.{Shown, arcs_from, ref_of}
-use Rattle.patr_library.specs.Copies.{AreReached, HasCopy, HaveCopies, IsNextImage, image_at, with_mark, with_marks}
-use Rattle.patr_library.proofs.Imaging.{at_last}
 
 -- ---- marks
 
@@ -26,17 +19,8 @@ mark_kept (b ∷ marks) zero (suc n) h = h
 mark_kept (b ∷ marks) (suc k) zero h = h
 mark_kept (b ∷ marks) (suc k) (suc n) h = mark_kept marks k n h
 
-mark_there : (marks : List Bool) (k : ℕ) → k < length marks → get_or (set marks k true) k false ≡ true
-mark_there [] k h = absurd (omega (arith, h))
-mark_there (b ∷ marks) zero h = refl
-mark_there (b ∷ marks) (suc k) h = mark_there marks k (omega (arith, h))
-
 mark_only : (marks : List Bool) (k n : ℕ) → get_or (set marks k true) n false ≡ true → (get_or marks n false ≡ true) ⊎ (k ≡ n)
-mark_only [] k n h = inl h
-mark_only (b ∷ marks) zero zero h = inr refl
-mark_only (b ∷ marks) zero (suc n) h = inl h
-mark_only (b ∷ marks) (suc k) zero h = inl h
-mark_only (b ∷ marks) (suc k) (suc n) h = elim (mark_only marks k n h) as (λ _. (get_or marks n false ≡ true) ⊎ (suc k ≡ suc n)) [ inl i ↦ inl i | inr i ↦ inr (ap (λ m. suc m) i) ]
+mark_only marks k n h = elim (cases_eq n k) as (λ _. (get_or marks n false ≡ true) ⊎ (k ≡ n)) [ inl e ↦ inr (sym e) | inr e ↦ inl (sym (get_or-set_other marks k n true false e) ∙ h) ]
 
 none_beyond : (marks : List Bool) (n : ℕ) → get_or marks n false ≡ true → n < length marks
 none_beyond [] n h = cc
@@ -58,7 +42,7 @@ value_kept marks (Node k) n h = mark_kept marks k n h
 
 value_there : (marks : List Bool) (S : Structure) (x : Value) → IsValue S x → length marks ≡ length S → IsMarked (with_mark marks x) x
 value_there marks S (Atom c) h l = tt
-value_there marks S (Node k) h l = mark_there marks k (omega (arith, h, l))
+value_there marks S (Node k) h l = get_or-set_same marks k true false (omega (arith, h, l))
 
 value_only : (marks : List Bool) (x : Value) (n : ℕ) → get_or (with_mark marks x) n false ≡ true → (get_or marks n false ≡ true) ⊎ (x ≡ Node n)
 value_only marks (Atom c) n h = inl h
@@ -106,16 +90,6 @@ has_each : (P : Value → Type 0) (es : Arcs) → ((a : ℕ) (y : Value) → Has
 has_each P [] h = tt
 has_each P (e ∷ es) h = (h e.attribute e.to (inl (refl, refl)), has_each P es (λ a y k. h a y (inr k)))
 
-each_kept : (marks : List Bool) (es ds : Arcs) → AllByRecursion (λ e. IsMarked marks e.to) ds → AllByRecursion (λ e. IsMarked (with_marks marks es) e.to) ds
-each_kept marks es [] h = tt
-each_kept marks es (d ∷ ds) h = (marked_kept marks es d.to h.0, each_kept marks es ds h.1)
-
-first_or : (next n : ℕ) → next ≤ n → (next ≡ n) ⊎ (next < n)
-first_or zero zero l = inl refl
-first_or zero (suc n) l = inr (omega arith)
-first_or (suc next) zero l = absurd (omega (arith, l))
-first_or (suc next) (suc n) l = elim (first_or next n (omega (arith, l))) as (λ _. (suc next ≡ suc n) ⊎ (suc next < suc n)) [ inl e ↦ inl (ap (λ m. suc m) e) | inr k ↦ inr (omega (arith, k)) ]
-
 -- ---- what is reached
 
 module _ (S : Structure) (x : Value) where
@@ -144,7 +118,7 @@ module _ (S : Structure) (x : Value) where
     long = i.long;
     first = i.first;
     only = i.only;
-    closed = λ n l h. elim (first_or next n l) [
+    closed = λ n l h. elim (eq-or-lt_of_le {n = next} {m = n} l) [
       | inl e ↦ let bad : false ≡ true = sym bare ∙ (ap (λ k. get_or marks k false) e ∙ h) in cc
       | inr g ↦ i.closed n (omega (arith, g, step)) h
     ];
@@ -167,9 +141,9 @@ module _ (S : Structure) (x : Value) where
         closed = λ n l h.
             let there : get_or (with_marks marks es) n false ≡ true = ap (λ (m : List Bool). get_or m n false) (sym is) ∙ h in
             subst (λ (m : List Bool). AllByRecursion (λ e. IsMarked m e.to) (arcs_of S (Node n))) (sym is)
-            (elim (first_or next n l) [
+            (elim (eq-or-lt_of_le {n = next} {m = n} l) [
               | inl e ↦ subst (λ (k : ℕ). AllByRecursion (λ e. IsMarked (with_marks marks es) e.to) (arcs_of S (Node k))) e (all_there marks S es values i.long)
-              | inr g ↦ each_kept marks es (arcs_of S (Node n)) (i.closed n (omega (arith, g, step)) (was n g there))
+              | inr g ↦ all_weaker (λ e. IsMarked marks e.to) (λ e. IsMarked (with_marks marks es) e.to) (λ e m. marked_kept marks es e.to m) (arcs_of S (Node n)) (i.closed n (omega (arith, g, step)) (was n g there))
             ]);
       }
 
@@ -193,11 +167,6 @@ copy_of : (o : Option ℕ) → is_some o ≡ true → (k : ℕ) × (o ≡ Some k
 copy_of None h = cc
 copy_of (Some k) h = (k, refl)
 
-pub copy_within : (images : List (Option ℕ)) (n k : ℕ) → image_at images n ≡ Some k → n < length images
-copy_within [] n k h = cc
-copy_within (o ∷ images) zero k h = omega arith
-copy_within (o ∷ images) (suc n) k h = omega (arith, copy_within images n k h)
-
 pub copy_of_arc : (to : ℕ → Option ℕ) (v : Shown) (b : ℕ) (fs : List Feature) (i : ℕ) (d : Feature) → HaveCopies to (arcs_from v b fs) → i < length fs → HasCopy to (ref_of v b (get_or fs i d).to)
 copy_of_arc to v b [] i d h l = absurd (omega (arith, l))
 copy_of_arc to v b (f ∷ fs) zero d h l = h.0
@@ -210,8 +179,8 @@ next_long r old new h = ap length h.1 ∙ length-append old (h.0 ∷ [])
 pub copied_more : (marks : List Bool) (r : Bool) (old new : List (Option ℕ)) → r ≡ get_or marks (length old) false → AreCopied marks old → IsNextImage r old new → AreCopied marks new
 copied_more marks r old new is copied h n l =
     ap (λ (ls : List (Option ℕ)). is_some (image_at ls n)) h.1
-    ∙ elim (first_or n (length old) (omega (arith, l, next_long r old new h))) as (λ _. is_some (image_at (old ++ h.0 ∷ []) n) ≡ get_or marks n false) [
-      | inl e ↦ subst (λ (m : ℕ). is_some (image_at (old ++ h.0 ∷ []) m) ≡ get_or marks m false) (sym e) (ap is_some (at_last old h.0) ∙ (h.2 ∙ is))
+    ∙ elim (eq-or-lt_of_le {n = n} {m = length old} (omega (arith, l, next_long r old new h))) as (λ _. is_some (image_at (old ++ h.0 ∷ []) n) ≡ get_or marks n false) [
+      | inl e ↦ subst (λ (m : ℕ). is_some (image_at (old ++ h.0 ∷ []) m) ≡ get_or marks m false) (sym e) (ap is_some (get_or_push old h.0 None (length old) refl) ∙ (h.2 ∙ is))
       | inr k ↦ ap is_some (get_or_append_left old (h.0 ∷ []) None n k) ∙ copied n k
     ]
 

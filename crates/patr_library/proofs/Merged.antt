@@ -1,28 +1,86 @@
--- The items of rules and entries together, and what is found by key.
-use Rattle.std.proofs.Common.{◌≡◌, ℕ, zero, suc, ◌+◌, ◌<◌, Bool, cond, List, [], ◌∷◌, ◌++◌, length, map, take, get_or, slice_get, Some, None, refl, sym, ap, ◌∙◌, arith, subst}
-use Rattle.std.specs.List.{AllByRecursion}
-use Rattle.std.proofs.lemmas.List.{length-map, map-append, take_more}
-use Rattle.std.proofs.lemmas.Option.{slice_get_within}
-use Rattle.patr_model.proofs.Maps.{and_then_some}
+-- The items of rules and of entries are exactly the variants that have a solution, and they are found by key.
+use Rattle.std.proofs.Common.{◌≡◌, inl, inr, ℕ, List, length, map, Some, slice_get, refl, ap, ◌∙◌, [], ◌∷◌, sym, subst, zero, suc, ◌+◌, ◌<◌, Bool, cond, ◌++◌, take, get_or, None, arith}
+use Rattle.patr_library.proofs.Names.{all_weaker, AllByRecursion, Rules, RuleVariant, Begin, rule_variant, IsSolvable, AreWithin, variant_steps, Shown, IsShown, RuleItem, IsRuleItem, AreKept, HasNoRule, HasRuleItem, Numbered, all_numbered, EntryVariant, Leaf, entry_variant, Node, IsLeastValue, some_inj, number_of, ref_of, value_of, EntryItem, Bounds, IsEntryItem, HasEntryItem, HasNoEntry, NumberedEntry, length-map, map-append, take_more, slice_get_within, and_then_some, places, build_fault, rules_fault, entries_fault, grammar_first, in_lexicon, rule_variants, entry_variants, are_built, Id, rule_seen, Entry, entry_seen, has_key, AreOfEntries, HasItems, built_rules, grammar_of, entries_of, keys, word_at, is_number, is_of_word, is_of_mother, AreRulesDealt, variants_of, AreEntriesDealt, entry_variants_of, length-take-le}
+use Rattle.patr_model.proofs.Leaves.{leaves_are_rules}
 use Rattle.std.proofs.lemmas.Simd.{map-map}
-use Rattle.patr_lists.specs.Numbers.{places}
-use Rattle.patr_model.specs.Build.{build_fault, rules_fault, entries_fault, grammar_first, in_lexicon, rule_variants, entry_variants}
-use Rattle.patr_model.proofs.StatedCategories.{are_built}
-use Rattle.patr_text.specs.declared.symbols.Id.{Id}
 use Rattle.patr_grammar.specs.declared.grammar.Grammar.{Grammar}
-use Rattle.patr_grammar.specs.Reading.{rule_seen}
-use Rattle.patr_lexicon.specs.declared.lexicon.Entry.{Entry}
-use Rattle.patr_lexicon.specs.Seen.{entry_seen}
-use Rattle.patr_arena.specs.Shown.{Shown, IsShown}
-use Rattle.patr_library.specs.declared.item.RuleItem.{RuleItem}
-use Rattle.patr_library.specs.declared.item.EntryItem.{EntryItem}
-use Rattle.patr_library.specs.Lists.{has_key}
-use Rattle.patr_library.specs.Stored.{AreOfEntries, HasItems, IsEntryItem, built_rules, grammar_of, entries_of, keys, number, word_at, is_number, is_of_word, is_of_mother}
-use Rattle.patr_library.specs.Built.{AreKept, AreRulesDealt, HasRuleItem, HasNoRule, all_numbered, variants_of}
-use Rattle.patr_library.specs.Entries.{AreEntriesDealt, HasEntryItem, HasNoEntry, entry_variants_of}
+use Rattle.patr_lists.specs.Tables.{Table, with_number}
+use Rattle.patr_lists.proofs.Tables.{index_added}
+use Rattle.patr_library.proofs.ItemsKept.{block_held, block_bounds, block_least, block_arc}
+use Rattle.patr_library.proofs.Listed.{kept_all, kept_every, all_members, every_member, items_rise}
+use Rattle.patr_library.specs.Stored.{number}
 use Rattle.patr_library.proofs.Keeping.{kept_map, rule_still}
-use Rattle.patr_library.proofs.RuleItems.{rule_items, rules_rise, every_rule}
-use Rattle.patr_library.proofs.EntryItems.{entry_items, entries_rise, every_entry}
+use Rattle.patr_arena.specs.declared.value.Ref.TheVariants as ref
+
+-- ---- the items of rules
+
+module _ (g : Rules) (v : Shown) (s : IsShown v) (within : (r k : ℕ) (rule : RuleVariant) → rule_variant g r k ≡ Some rule → AreWithin (length rule.categories) rule.equations) where
+  rule_item : (d : Numbered) (i : RuleItem) → rule_variant g d.0 d.1 ≡ Some d.2 → HasRuleItem v d i → IsRuleItem g v i
+  rule_item d i is stored =
+      let alone = stored.least.rooted.own in
+      let below = stored.least.rooted.root in
+      record {
+        variant = d.2;
+        is = ap (λ r. rule_variant g r i.variant) stored.rule_is ∙ (ap (λ k. rule_variant g d.0 k) stored.variant_is ∙ is);
+        slots = stored.slots;
+        mother = stored.mother;
+        held = block_held v s i.root.block stored.nodes stored.block alone i.root.offset below;
+        least = block_least v s i.root.block stored.nodes stored.block alone i.root.offset below d.2.categories d.2.equations (within d.0 d.1 d.2 is) stored.least;
+        bounds = block_bounds v s i.root.block stored.nodes stored.block alone (ref.New i.root.offset) below i.nodes i.arcs stored.nodes_are stored.arcs_are;
+      }
+
+  every_rule : (is : List RuleItem) → AreKept (HasRuleItem v) HasNoRule (all_numbered 0 g.rules) is
+      → (r k at : ℕ) → IsSolvable g (Begin r k at) → (n : ℕ) × (i : RuleItem) × (slice_get is n ≡ Some i) × (i.rule ≡ r) × (i.variant ≡ k)
+  every_rule is kept r k at h =
+      let rule = h.2.solves.0 in
+      let there = h.2.solves.1 in
+      let m = every_member g.rules r k rule there in
+      elim (kept_every (HasRuleItem v) HasNoRule (all_numbered 0 g.rules) is kept m.0 (r, k, rule) m.1) [
+        | inl none ↦ absurd (variant_steps.unsolved g r k at rule there (none rule.categories refl) h)
+        | inr f ↦ (f.0, f.1, f.2, f.3.rule_is, f.3.variant_is)
+      ]
+
+-- ---- the items of entries
+
+module _ (g : Rules) (v : Shown) (s : IsShown v) (within : (e k : ℕ) (entry : EntryVariant) → entry_variant g e k ≡ Some entry → AreWithin 1 entry.equations)
+    (chains : (e k : ℕ) (entry : EntryVariant) → entry_variant g e k ≡ Some entry → entry.chain ≡ []) where
+  -- the value in the one slot is the entry's least value
+  leaf_least : (d : NumberedEntry) (i : EntryItem) → entry_variant g d.0 d.1 ≡ Some d.2 → HasEntryItem v d i → (from to : ℕ) → IsLeastValue g (Leaf d.0 d.1 from to) v.structure (value_of v i.root)
+  leaf_least d i is stored from to =
+      let b = stored.number in
+      let alone = stored.least.rooted.own in
+      let below = stored.least.rooted.root in
+      let m = Node (number_of v b stored.slots) in
+      let least = block_least v s b stored.nodes stored.block alone stored.slots below (d.2.category ∷ []) d.2.equations (within d.0 d.1 d.2 is) stored.least in
+      let x = leaves_are_rules.solved g d.0 d.1 from to d.2 v.structure m is (chains d.0 d.1 d.2 is) least in
+      let slot = block_arc v s b stored.nodes stored.block alone stored.slots below 0 stored.to stored.own stored.slot in
+      subst (IsLeastValue g (Leaf d.0 d.1 from to) v.structure) (some_inj x.0 (ref_of v b stored.to) (sym x.1 ∙ slot) ∙ sym stored.root) x.2
+
+  entry_item : (d : NumberedEntry) (i : EntryItem) → entry_variant g d.0 d.1 ≡ Some d.2 → HasEntryItem v d i → IsEntryItem g v i
+  entry_item d i is stored = record {
+    variant = d.2;
+    is = ap (λ e. entry_variant g e i.variant) stored.entry_is ∙ (ap (λ k. entry_variant g d.0 k) stored.variant_is ∙ is);
+    held = stored.held;
+    least = λ from to.
+        subst (λ e. IsLeastValue g (Leaf e i.variant from to) v.structure (value_of v i.root)) (sym stored.entry_is)
+        (subst (λ k. IsLeastValue g (Leaf d.0 k from to) v.structure (value_of v i.root)) (sym stored.variant_is) (leaf_least d i is stored from to));
+    bounds =
+        subst (λ x. Bounds v x i.nodes i.arcs) (sym stored.root)
+        (block_bounds v s stored.number stored.nodes stored.block stored.least.rooted.own stored.to stored.own i.nodes i.arcs stored.nodes_are stored.arcs_are);
+  }
+
+  every_entry : (is : List EntryItem) → AreKept (HasEntryItem v) HasNoEntry (all_numbered 0 g.entries) is
+      → (e k from to : ℕ) → IsSolvable g (Leaf e k from to) → (n : ℕ) × (i : EntryItem) × (slice_get is n ≡ Some i) × (i.entry ≡ e) × (i.variant ≡ k)
+  every_entry is kept e k from to h =
+      let entry = h.2.solves.0 in
+      let there = h.2.solves.2 in
+      let m = every_member g.entries e k entry there in
+      elim (kept_every (HasEntryItem v) HasNoEntry (all_numbered 0 g.entries) is kept m.0 (e, k, entry) m.1) [
+        | inl none ↦ absurd (leaves_are_rules.unsolved g e k from to entry there (chains e k entry there) (none (entry.category ∷ []) refl) h)
+        | inr f ↦ (f.0, f.1, f.2, f.3.entry_is, f.3.variant_is)
+      ]
+
+-- ---- both
 
 rules_are : (g : Grammar) (l : List Entry) → map variants_of g.rules.items ≡ (built_rules g l).rules
 rules_are g l = sym (map-map (rule_variants number keys.cat) rule_seen g.rules.items)
@@ -43,26 +101,21 @@ has_items g l u v w rules entries s d e =
     let h : AreKept (HasEntryItem w) HasNoEntry (all_numbered 0 b.entries) entries =
     subst (λ vss. AreKept (HasEntryItem w) HasNoEntry (all_numbered 0 vss) entries) (entries_are g l) (e.kept [] tt) in
     record {
-      rule_items = rule_items b w s built.within.rules rules k;
-      rules_rise = rules_rise b w s built.within.rules rules k;
+      rule_items = kept_all (HasRuleItem w) HasNoRule (λ d. rule_variant b d.0 d.1 ≡ Some d.2) (IsRuleItem b w) (rule_item b w s built.within.rules) (all_numbered 0 b.rules) rules (all_members b.rules) k;
+      rules_rise = items_rise (HasRuleItem w) HasNoRule (λ i. (i.rule, i.variant)) (λ d i h. ap (λ r. (r, i.variant)) h.rule_is ∙ ap (λ n. (d.0, n)) h.variant_is) b.rules rules k;
       every_rule = every_rule b w s built.within.rules rules k;
-      entry_items = entry_items b w s built.within.entries built.chains entries h;
-      entries_rise = entries_rise b w s built.within.entries built.chains entries h;
+      entry_items = kept_all (HasEntryItem w) HasNoEntry (λ d. entry_variant b d.0 d.1 ≡ Some d.2) (IsEntryItem b w) (entry_item b w s built.within.entries built.chains) (all_numbered 0 b.entries) entries (all_members b.entries) h;
+      entries_rise = items_rise (HasEntryItem w) HasNoEntry (λ i. (i.entry, i.variant)) (λ d i h. ap (λ n. (n, i.variant)) h.entry_is ∙ ap (λ n. (d.0, n)) h.variant_is) b.entries entries h;
       every_entry = every_entry b w s built.within.entries built.chains entries h;
     }
 
 -- each item is one of an entry that is there
 pub entries_there : (g : Grammar) (l : List Entry) (v : Shown) (es : List EntryItem) → AllByRecursion (IsEntryItem (built_rules g l) v) es → AreOfEntries (length l) es
-entries_there g l v [] h = tt
-entries_there g l v (i ∷ es) h =
+entries_there g l v = all_weaker (IsEntryItem (built_rules g l) v) (λ i. i.entry < length l)
+    (λ i item.
     let all = (built_rules g l).entries in
-    let here = and_then_some (slice_get all i.entry) (λ vs. slice_get vs i.variant) h.0.variant h.0.is in
-    (omega (arith, slice_get_within all i.entry here.0 here.1, ap length (entries_are g l), length-map l entry_variants_of), entries_there g l v es h.1)
-
-pub of_entry_at : (n : ℕ) (es : List EntryItem) (i : ℕ) (d : EntryItem) → AreOfEntries n es → i < length es → (get_or es i d).entry < n
-of_entry_at n [] i d h l = absurd (omega (arith, l))
-of_entry_at n (e ∷ es) zero d h l = h.0
-of_entry_at n (e ∷ es) (suc i) d h l = of_entry_at n es i d h.1 (omega (arith, l))
+    let here = and_then_some (slice_get all i.entry) (λ vs. slice_get vs i.variant) item.variant item.is in
+    omega (arith, slice_get_within all i.entry here.0 here.1, ap length (entries_are g l), length-map l entry_variants_of))
 
 -- no rule has a fault, so the first is that of the entries
 pub fault_is : (g : Grammar) (l : List Entry) → rules_fault (map rule_seen g.rules.items) ≡ None → build_fault (grammar_of g) (entries_of l) ≡ in_lexicon (entries_fault (map entry_seen l))
@@ -95,3 +148,11 @@ words_more l entries i d x ks h there is =
     ∙ (ap (λ ws. ws ++ Some x.0 ∷ []) is
     ∙ (ap (λ o. map (λ i. word_at l i.entry) (take i entries) ++ o ∷ []) (sym there)
     ∙ sym (ap (map (λ i. word_at l i.entry)) (take_more entries i d h) ∙ map-append (λ i. word_at l i.entry) (take i entries) (get_or entries i d ∷ []))))
+
+-- with the next key
+pub index_next : (keys : List Id) (i : ℕ) (d : Id) (L M : Table) (s : ℕ) → i < length keys → (get_or keys i d).0 < length L → M ≡ with_number L (get_or keys i d).0 i → get_or L s [] ≡ places (has_key s) 0 (take i keys) → get_or M s [] ≡ places (has_key s) 0 (take (i + 1) keys)
+index_next keys i d L M s h below more is =
+    let x = get_or keys i d in
+    let long : length (take i keys) ≡ i = length-take-le i keys (omega (arith, h)) in
+    ap (λ N. get_or N s []) (more ∙ ap (λ k. with_number L x.0 k) (sym long))
+    ∙ (index_added (has_key s) (take i keys) x L x.0 s below refl is ∙ ap (λ l. places (has_key s) 0 l) (sym (take_more keys i d h)))

@@ -1,22 +1,74 @@
--- Blocks without old addresses where they stand in an arena.
-use Rattle.std.proofs.Common.{◌≡◌, ◌⊎◌, inl, inr, ℕ, zero, suc, ◌+◌, ◌-◌, ◌<◌, ◌≤◌, Bool, true, false, cond, nat_eq, nat_lt, lt-ltb, le-ltb, ltb-true, ltb-false, List, [], ◌∷◌, ◌++◌, length, length-append, map, get_or, Option, Some, None, slice_get, refl, sym, ap, ◌∙◌, arith, subst}
-use Rattle.std.proofs.lemmas.List.{length-map, get_or_append_left, get_or-append-add}
-use Rattle.patr_model.specs.Structure.{Value, Node, Structure, along, IsBelow, IsValue, IsStructure}
-use Rattle.std.specs.List.Sorted.{IsStrictlyIncreasing}
-use Rattle.patr_model.specs.Subsumption.{Same}
-use Rattle.patr_model.proofs.Maps.{some_inj}
-use Rattle.patr_arena.specs.declared.value.Ref.{Ref}
-use Rattle.patr_arena.specs.declared.value.Ref.TheVariants as ref
-use Rattle.patr_arena.specs.declared.value.Feature.{Feature}
-use Rattle.patr_arena.specs.declared.value.Addr.{Addr}
-use Rattle.patr_arena.specs.Shown.{Shown, IsShown, IsHeld, RefIsHeld, number_of, ref_of, arcs_from}
-use Rattle.patr_arena.specs.Blocks.{IsBlock, OldIsHeld, OldRefIsHeld, LeadsBelow, attributes, with_block}
-use Rattle.patr_arena.proofs.Showing.{still_held, same_number, same_number_held, block_extends, new_number, new_node}
-use Rattle.patr_arena.proofs.Rises.{rising_distinct}
-use Rattle.patr_library.specs.Own.{own_value, own_arcs, own_nodes, IsOwn, AllOwn, IsOwnBlock, ArePlaces, offsets_of, shift, shifted, IsPlacedAt}
-use Rattle.patr_library.specs.Copies.{IsImage, AreCopies, Corresponds}
+-- Blocks without old addresses, by themselves and where they stand in an arena.
+use Rattle.std.proofs.Common.{◌≡◌, ℕ, zero, suc, ◌<◌, List, [], ◌∷◌, ◌++◌, length, length-append, get_or, drop, refl, sym, ap, ◌∙◌, arith, inl, inr, ◌+◌, ◌-◌, ◌≤◌, Bool, true, false, cond, nat_eq, nat_lt, lt-ltb, le-ltb, ltb-true, ltb-false, map, Option, Some, None, slice_get, subst}
+use Rattle.patr_library.proofs.Names.{length-map, map-append, append_assoc, append-nil, IsStrictlyIncreasing, Node, Pointed, topped, to_value, Id, Ref, Feature, Shown, AllBelow, AllOldHeld, LeadsBelow, OldRefIsHeld, OldIsHeld, attributes, ids, own_arcs, own_nodes, pointed, IsOwn, AllOwn, IsOwnBlock, IsRooted, IsLedTo, get_parts, cond_some, get_or_append_left, get_or-append-add, Value, Structure, along, IsBelow, IsValue, IsStructure, Same, some_inj, Addr, IsShown, IsHeld, RefIsHeld, number_of, ref_of, arcs_from, IsBlock, with_block, still_held, same_number, same_number_held, block_extends, new_number, new_node, rising_distinct, own_value, ArePlaces, offsets_of, shift, shifted, IsPlacedAt, IsImage, AreCopies, Corresponds}
 use Rattle.patr_library.proofs.Corresponding.{same, own_get}
-use Rattle.patr_library.proofs.Owned.{held_anywhere}
+use Rattle.patr_arena.specs.declared.value.Ref.TheVariants as ref
+
+pub own_below : (n : ℕ) (fs : List Feature) → AllOwn n fs → AllBelow n fs
+own_below n [] h = tt
+own_below n (f ∷ fs) h = (go f.to h.0, own_below n fs h.1)
+  where
+    go : (r : Ref) → IsOwn n r → LeadsBelow n r
+    go (ref.Atom c) h = tt
+    go (ref.Old at) h = tt
+    go (ref.New k) h = h
+
+pub own_ref_held : (v : Shown) (n : ℕ) (r : Ref) → IsOwn n r → OldRefIsHeld v r
+own_ref_held v n (ref.Atom c) h = tt
+own_ref_held v n (ref.Old at) h = absurd h
+own_ref_held v n (ref.New k) h = tt
+
+pub own_old : (v : Shown) (n : ℕ) (fs : List Feature) → AllOwn n fs → AllOldHeld v fs
+own_old v n [] h = tt
+own_old v n (f ∷ fs) h = (own_ref_held v n f.to h.0, own_old v n fs h.1)
+
+-- a block without old addresses may stand behind whatever is shown
+pub held_anywhere : (v : Shown) (nodes : List (List Feature)) → IsOwnBlock nodes → OldIsHeld v nodes
+held_anywhere v nodes own = λ n. own_old v n (get_or nodes n []) (own.own n)
+
+-- what holds of each node holds with one more
+pushed : (P : ℕ → List Feature → Type 0) (nodes : List (List Feature)) (fs : List Feature) → ((n : ℕ) → P n (get_or nodes n [])) → P (length nodes) fs → (n : ℕ) → P n (get_or (nodes ++ fs ∷ []) n [])
+pushed P [] fs h k zero = k
+pushed P [] fs h k (suc n) = h (suc n)
+pushed P (x ∷ nodes) fs h k zero = h zero
+pushed P (x ∷ nodes) fs h k (suc n) = pushed (λ m. P (suc m)) nodes fs (λ m. h (suc m)) k n
+
+pub own_push : (nodes : List (List Feature)) (fs : List Feature) → IsStrictlyIncreasing (attributes fs) → AllOwn (length nodes) fs → IsOwnBlock nodes → IsOwnBlock (nodes ++ fs ∷ [])
+own_push nodes fs rising own old = record {
+  block = record {
+    rising = pushed (λ n gs. IsStrictlyIncreasing (attributes gs)) nodes fs old.block.rising rising;
+    below = pushed (λ n gs. AllBelow n gs) nodes fs old.block.below (own_below (length nodes) fs own);
+  };
+  own = pushed AllOwn nodes fs old.own own;
+}
+
+pub empty_own : IsOwnBlock []
+empty_own = record { block = record { rising = λ n i h. absurd (omega (arith, h)); below = λ n. tt }; own = λ n. tt }
+
+pub pointed_is : (nodes : List (List Feature)) (fs : List Feature) → topped (own_nodes nodes) (own_arcs fs) ≡ pointed (nodes ++ fs ∷ []) (ref.New (length nodes))
+pointed_is nodes fs =
+    ap (λ l. record { nodes = l; root = Node (length (own_nodes nodes)) }) (sym (map-append own_arcs nodes (fs ∷ [])))
+    ∙ ap (λ n. record { nodes = own_nodes (nodes ++ fs ∷ []); root = Node n }) (length-map nodes own_arcs)
+
+-- no nodes lead to the value itself
+pub led_none : (old : List (List Feature)) (to : Ref) → IsRooted old to → IsLedTo old to [] old to
+led_none old to r = record { rooted = r; longer = ([], sym (append-nil old)); is = refl }
+
+-- one more node in front
+pub led_more : (old : List (List Feature)) (to : Ref) (path : List ℕ) (new : List (List Feature)) (root : Ref) (a : Id) (new2 : List (List Feature)) → IsLedTo old to path new root
+    → new2 ≡ new ++ (record { attribute = a; to = root } ∷ []) ∷ [] → IsOwnBlock new2 → IsLedTo old to (a.0 ∷ path) new2 (ref.New (length new))
+led_more old to path new root a new2 l is own =
+    let f : List Feature = record { attribute = a; to = root } ∷ [] in
+    record {
+      rooted = record { own = own; root = omega (arith, ap length is, length-append new (f ∷ [])) };
+      longer = (l.longer.0 ++ f ∷ [], is ∙ (ap (λ l. l ++ f ∷ []) l.longer.1 ∙ append_assoc old l.longer.0 (f ∷ [])));
+      is = ap (λ (x : Pointed). topped x.nodes (to_value a.0 x.root ∷ [])) l.is ∙ (pointed_is new f ∙ ap (λ n. pointed n (ref.New (length new))) (sym is));
+    }
+
+pub drop_one : (xs : List Id) (i : ℕ) (d : Id) → i < length xs → ids (drop i xs) ≡ (get_or xs i d).0 ∷ ids (drop (suc i) xs)
+drop_one [] i d h = absurd (omega (arith, h))
+drop_one (x ∷ xs) zero d h = refl
+drop_one (x ∷ xs) (suc i) d h = drop_one xs i d (omega (arith, h))
 
 -- ---- a block is a structure
 
@@ -72,21 +124,17 @@ module _ (p m : ℕ) where
   unfolding to_own
   to_own_is n k h = first (nat_lt n p) refl h
     where
-      second : (b : Bool) → nat_lt (n - p) m ≡ b → p ≤ n → cond b (Some (n - p)) None ≡ Some k → (n ≡ p + k) × (k < m)
-      second true t l e = let s = some_inj (n - p) k e in let below = ltb-true (n - p) m t in (omega (arith, s, l), omega (arith, s, below))
-      second false t l e = cc
-
       first : (b : Bool) → nat_lt n p ≡ b → cond b None (cond (nat_lt (n - p) m) (Some (n - p)) None) ≡ Some k → (n ≡ p + k) × (k < m)
       first true t e = cc
-      first false t e = second (nat_lt (n - p) m) refl (ltb-false n p t) e
+      first false t e =
+          let s = cond_some (nat_lt (n - p) m) (n - p) k e in
+          let below = ltb-true (n - p) m s.0 in
+          let above = ltb-false n p t in
+          (omega (arith, s.1, above), omega (arith, s.1, below))
 
   from_own_is : (k n : ℕ) → from_own k ≡ Some n → (n ≡ p + k) × (k < m)
   unfolding from_own
-  from_own_is k n h = go (nat_lt k m) refl h
-    where
-      go : (b : Bool) → nat_lt k m ≡ b → cond b (Some (p + k)) None ≡ Some n → (n ≡ p + k) × (k < m)
-      go true t e = (sym (some_inj (p + k) n e), ltb-true k m t)
-      go false t e = cc
+  from_own_is k n h = let s = cond_some (nat_lt k m) (p + k) n h in (sym s.1, ltb-true k m s.0)
 
   own_image : (r : Ref) → IsOwn m r → IsImage to_own (shift p r) r
   own_image (ref.Atom c) h = refl
@@ -124,14 +172,15 @@ placed_longer S N p nodes placed = record {
   each = λ k h. get_or_append_left S N [] (p + k) (omega (arith, h, placed.within)) ∙ placed.each k h;
 }
 
+-- where the block's nodes stand from a place on, its arcs lead there
+pub ref_shifted : (v : Shown) (b p m : ℕ) → ((o : ℕ) → number_of v b o ≡ p + o) → (r : Ref) → IsOwn m r → ref_of v b r ≡ shift p r
+ref_shifted v b p m e (ref.Atom c) h = refl
+ref_shifted v b p m e (ref.Old at) h = absurd h
+ref_shifted v b p m e (ref.New k) h = ap Node (e k)
+
 arcs_shifted : (v : Shown) (p m : ℕ) → ((o : ℕ) → number_of v (length v.sizes) o ≡ p + o) → (fs : List Feature) → AllOwn m fs → arcs_from v (length v.sizes) fs ≡ shifted p fs
 arcs_shifted v p m e [] h = refl
-arcs_shifted v p m e (f ∷ fs) h = ap (λ x. record { attribute = f.attribute.0; to = x } ∷ arcs_from v (length v.sizes) fs) (go f.to h.0) ∙ ap (λ es. record { attribute = f.attribute.0; to = shift p f.to } ∷ es) (arcs_shifted v p m e fs h.1)
-  where
-    go : (r : Ref) → IsOwn m r → ref_of v (length v.sizes) r ≡ shift p r
-    go (ref.Atom c) k = refl
-    go (ref.Old at) k = absurd k
-    go (ref.New j) k = ap Node (e j)
+arcs_shifted v p m e (f ∷ fs) h = ap (λ x. record { attribute = f.attribute.0; to = x } ∷ arcs_from v (length v.sizes) fs) (ref_shifted v (length v.sizes) p m e f.to h.0) ∙ ap (λ es. record { attribute = f.attribute.0; to = shift p f.to } ∷ es) (arcs_shifted v p m e fs h.1)
 
 pub placed_new : (v : Shown) → IsShown v → (nodes : List (List Feature)) → IsOwnBlock nodes → IsPlacedAt (with_block v nodes).structure (length v.structure) nodes
 placed_new v s nodes own =
@@ -158,14 +207,6 @@ offsets_long : (b k n : ℕ) → length (offsets_of b k n) ≡ n
 offsets_long b k zero = refl
 offsets_long b k (suc n) = ap (λ m. suc m) (offsets_long b (suc k) n)
 
-get_append : {X : Type 0} (xs ys : List X) (n : ℕ) (x : X) → slice_get (xs ++ ys) n ≡ Some x → ((n < length xs) × (slice_get xs n ≡ Some x)) ⊎ ((i : ℕ) × (n ≡ length xs + i) × (slice_get ys i ≡ Some x))
-get_append [] ys n x h = inr (n, omega arith, h)
-get_append (y ∷ xs) ys zero x h = inl (omega arith, h)
-get_append {X = X} (y ∷ xs) ys (suc n) x h = elim (get_append xs ys n x h) as (λ _. ((suc n < suc (length xs)) × (slice_get xs n ≡ Some x)) ⊎ ((i : ℕ) × (suc n ≡ suc (length xs) + i) × (slice_get ys i ≡ Some x))) [
-  | inl i ↦ inl (omega (arith, i.0), i.1)
-  | inr i ↦ inr (i.0, omega (arith, i.1), i.2)
-]
-
 pub places_pushed : (v : Shown) → IsShown v → (nodes : List (List Feature)) → IsBlock nodes → OldIsHeld v nodes → (places : List Addr) → ArePlaces v places
     → ArePlaces (with_block v nodes) (places ++ offsets_of (length v.sizes) 0 (length nodes))
 places_pushed v s nodes block old places are =
@@ -173,8 +214,8 @@ places_pushed v s nodes block old places are =
     let more = block_extends v s nodes block old in
     record {
       long = omega (arith, length-append places (offsets_of (length v.sizes) 0 (length nodes)), offsets_long (length v.sizes) 0 (length nodes), are.long, length-append v.structure (map (arcs_from v (length v.sizes)) nodes), length-map nodes (arcs_from v (length v.sizes)));
-      each = λ n at e. elim (get_append places (offsets_of (length v.sizes) 0 (length nodes)) n at e) [
-        | inl h ↦ let a = are.each n at h.1 in (still_held v w more at.block at.offset a.0, same_number_held v w more at.block at.offset a.0 ∙ a.1)
+      each = λ n at e. elim (get_parts places (offsets_of (length v.sizes) 0 (length nodes)) n at e) [
+        | inl h ↦ let a = are.each n at h in (still_held v w more at.block at.offset a.0, same_number_held v w more at.block at.offset a.0 ∙ a.1)
         | inr h ↦
             let o = offset_at (length v.sizes) 0 (length nodes) h.0 at h.2 in
             let offset : at.offset ≡ h.0 = ap (λ (x : Addr). x.offset) o.0 ∙ (let e : 0 + h.0 ≡ h.0 = omega arith in e) in
@@ -201,6 +242,4 @@ ref_same v s nodes block old (ref.Old at) h = ap Node (same_number_held v (with_
 ref_same v s nodes block old (ref.New k) h = ap Node (same_number v (with_block v nodes) (block_extends v s nodes block old) (length v.sizes) k (omega arith))
 
 pub own_shift : (v : Shown) → IsShown v → (nodes : List (List Feature)) → IsOwnBlock nodes → (r : Ref) → IsOwn (length nodes) r → ref_of v (length v.sizes) r ≡ shift (length v.structure) r
-own_shift v s nodes own (ref.Atom c) h = refl
-own_shift v s nodes own (ref.Old at) h = absurd h
-own_shift v s nodes own (ref.New k) h = ap Node (new_number v s nodes own.block (held_anywhere v nodes own) k)
+own_shift v s nodes own = ref_shifted v (length v.sizes) (length v.structure) (length nodes) (new_number v s nodes own.block (held_anywhere v nodes own))

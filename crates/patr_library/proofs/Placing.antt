@@ -1,17 +1,9 @@
 -- The structures that the code makes of equations.
 use Rattle.std.proofs.Common.{◌≡◌, inl, inr, ℕ, zero, suc, cond, eq-eqb, List, [], ◌∷◌, ◌++◌, take, drop, Option, Some, None, IfSome, IfNone, slice_get, refl, sym, ap, ◌∙◌, subst}
-use Rattle.std.proofs.lemmas.List.{map-append, take-append-drop}
-use Rattle.patr_model.specs.Structure.{Atom, IsValue, IsStructure}
-use Rattle.patr_model.specs.Subsumption.{Same}
+use Rattle.patr_library.proofs.Names.{map-append, take-append-drop, Atom, IsValue, IsStructure, Same, AtomOf, PathOf, Pointed, led, forked, below_arc, one_place, atom_at_path, from_root, maps_reflexive, Id, ids, ArePartedAt, IsPlaceOf, IsStatement, led_all}
 use Rattle.patr_model.specs.Equation as model
-use Rattle.patr_model.specs.Equation.{AtomOf, PathOf}
-use Rattle.patr_model.specs.EquationStructures.{Pointed, led, forked, below_arc, one_place, atom_at_path}
-use Rattle.patr_model.specs.Variants.{from_root, equation_at}
-use Rattle.patr_model.proofs.Maps.{maps_reflexive}
+use Rattle.patr_model.specs.Variants.{equation_at}
 use Rattle.patr_model.proofs.EquationStructures.{equations}
-use Rattle.patr_text.specs.declared.symbols.Id.{Id}
-use Rattle.patr_arena.specs.Paths.{ids}
-use Rattle.patr_library.specs.Own.{ArePartedAt, IsPlaceOf, IsStatement, led_all}
 
 as_it_is : (o : Option Pointed) → o ≡ led_all [] o
 as_it_is None = refl

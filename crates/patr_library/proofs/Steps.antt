@@ -1,21 +1,8 @@
 -- The least value of one more equation.
-use Rattle.std.proofs.Common.{◌≡◌, ◌⊎◌, inl, inr, ℕ, zero, suc, ◌+◌, ◌<◌, ◌≤◌, cond, List, [], ◌∷◌, ◌++◌, length, length-append, map, get_or, slice_get, replicate, take, drop, None, Some, refl, sym, ap, ◌∙◌, arith, subst, eq-eqb, ne_eqb}
-use Rattle.std.proofs.lemmas.List.{map-append, length-replicate, take_more, take-append-drop}
-use Rattle.std.specs.List.Sorted.{IsStrictlyIncreasing}
-use Rattle.patr_model.specs.Structure.{Value, Node, Arcs, Structure, IsValue, IsStructure, along, arc}
-use Rattle.patr_model.specs.Subsumption.{MapsInto, Same, TakesBoth, IsUnifier}
-use Rattle.patr_model.specs.Equation.{Equation}
-use Rattle.patr_model.specs.Solution.{slots_from}
-use Rattle.patr_model.specs.Variants.{variant, RuleAt, IsLeastOf, AreWithin, IsWithin, equation_at, blank_slots, nodes_from}
-use Rattle.patr_model.proofs.Maps.{carries_arc, maps_reflexive, maps_transitive}
-use Rattle.patr_model.proofs.Variants.{rule_carried, variant_steps}
-use Rattle.patr_arena.specs.declared.value.Ref.{Ref}
+use Rattle.std.proofs.Common.{◌≡◌, inl, inr, ℕ, zero, suc, ◌+◌, ◌<◌, ◌≤◌, cond, List, [], ◌∷◌, ◌++◌, length, length-append, map, get_or, replicate, take, drop, None, Some, refl, sym, ap, ◌∙◌, arith, subst, eq-eqb, ne_eqb}
+use Rattle.patr_library.proofs.Names.{eq-or-lt_of_le, get_there, map-append, length-replicate, take_more, take-append-drop, IsStrictlyIncreasing, Value, Node, Arcs, Structure, IsValue, IsStructure, along, arc, MapsInto, Same, TakesBoth, IsUnifier, Equation, slots_from, variant, RuleAt, IsLeastOf, AreWithin, IsWithin, blank_slots, nodes_from, carries_arc, maps_reflexive, maps_transitive, rule_carried, variant_steps, Ref, Feature, attributes, rising_tail, own_value, own_arcs, own_nodes, pointed, AllOwn, IsOwn, IsOwnBlock, IsRooted, IsStatement, slot_features, HasSlot, IsLeastAt, IsNew, HasNone, IsUnified, TakeNone}
+use Rattle.patr_model.specs.Variants.{equation_at}
 use Rattle.patr_arena.specs.declared.value.Ref.TheVariants as ref
-use Rattle.patr_arena.specs.declared.value.Feature.{Feature}
-use Rattle.patr_arena.specs.Blocks.{attributes}
-use Rattle.patr_arena.proofs.Rises.{rising_tail}
-use Rattle.patr_library.specs.Own.{own_value, own_arcs, own_nodes, pointed, AllOwn, IsOwn, IsOwnBlock, IsRooted, IsStatement}
-use Rattle.patr_library.specs.Solved.{slot_features, HasSlot, IsLeastAt, IsNew, HasNone, IsUnified, TakeNone}
 use Rattle.patr_library.proofs.Corresponding.{own_get}
 use Rattle.patr_library.proofs.Placed.{own_structure, own_is_value}
 
@@ -149,14 +136,14 @@ none_still slots es fs h = λ cs count. variant_steps.keeps_refusing cs es fs (h
 
 -- ---- the equations so far
 
-pub taken_more : {X : Type 0} (f : X → Equation) (xs : List X) (i : ℕ) (d : X) → i < length xs → map f (take (i + 1) xs) ≡ map f (take i xs) ++ f (get_or xs i d) ∷ []
-taken_more f xs i d h = ap (map f) (take_more xs i d h) ∙ map-append f (take i xs) (get_or xs i d ∷ [])
-
 pub all_of : {X : Type 0} (f : X → Equation) (xs : List X) (i : ℕ) → map f xs ≡ map f (take i xs) ++ map f (drop i xs)
 all_of f xs i = ap (map f) (sym (take-append-drop i xs)) ∙ map-append f (take i xs) (drop i xs)
 
-pub within_taken : {X : Type 0} (f : X → Equation) (n : ℕ) (xs : List X) (i : ℕ) → AreWithin n (map f xs) → AreWithin n (map f (take i xs))
-within_taken f n xs i w = within_left n (map f (take i xs)) (map f (drop i xs)) (subst (AreWithin n) (all_of f xs i) w)
+-- with one more
+pub taken_more : {X : Type 0} (f : X → Equation) (n : ℕ) (xs : List X) (i : ℕ) (x : X) → i < length xs → x ≡ get_or xs i x → AreWithin n (map f xs) → (map f (take (i + 1) xs) ≡ map f (take i xs) ++ f x ∷ []) × AreWithin n (map f (take i xs) ++ f x ∷ [])
+taken_more f n xs i x h is w =
+    let more = ap (map f) (take_more xs i x h) ∙ (map-append f (take i xs) (get_or xs i x ∷ []) ∙ ap (λ y. map f (take i xs) ++ f y ∷ []) (sym is)) in
+    (more, subst (AreWithin n) more (within_left n (map f (take (i + 1) xs)) (map f (drop (i + 1) xs)) (subst (AreWithin n) (all_of f xs (i + 1)) w)))
 
 -- ---- the first slot
 
@@ -166,12 +153,8 @@ first_slot slots es nodes root some at =
     let cs = replicate slots 0 in
     let count = length-replicate {A = ℕ} slots 0 in
     let holds = (at.least cs count).holds in
-    let v = first_of_list holds.0 (omega (arith, some, holds.1.count, count)) in
+    let v = get_there holds.0 0 (omega (arith, some, holds.1.count, count)) in
     (v.0, holds.2 0 v.0 v.1)
-  where
-    first_of_list : (vs : List Value) → 0 < length vs → (v : Value) × (slice_get vs 0 ≡ Some v)
-    first_of_list [] h = absurd (omega (arith, h))
-    first_of_list (v ∷ vs) h = (v, refl)
 
 -- a value into which a node with a first slot maps has one, so it is a node
 pub still_new : (left : List (List Feature)) (l : ℕ) (whole : Structure) (y : Value) (nodes : List (List Feature)) (r : Ref) → HasSlot left l → MapsInto (own_nodes left) (Node l) whole y → MapsInto whole y (own_nodes nodes) (own_value r)
@@ -200,16 +183,12 @@ slot_first nodes root d own slot =
     let r = go fs (own.block.rising root) slot.0 (ap (λ es. along es 0) (sym (own_get nodes root)) ∙ slot.1) in
     (r.0, ap (λ es. along es 0) (own_get nodes root) ∙ r.1)
   where
-    zero_or : (n : ℕ) → (n ≡ 0) ⊎ (0 < n)
-    zero_or zero = inl refl
-    zero_or (suc n) = inr (omega arith)
-
     go : (fs : List Feature) → IsStrictlyIncreasing (attributes fs) → (x : Value) → along (own_arcs fs) 0 ≡ Some x → (0 < length fs) × (along (own_arcs fs) 0 ≡ Some (own_value (get_or fs 0 d).to))
     go [] rising x e = cc
     go (f ∷ fs) rising x e = (
       omega arith,
-      elim (zero_or f.attribute.0) [
-        | inl z ↦ ap (λ b. cond b (Some (own_value f.to)) (along (own_arcs fs) 0)) (eq-eqb f.attribute.0 0 z)
+      elim (eq-or-lt_of_le {n = 0} {m = f.attribute.0} (omega arith)) [
+        | inl z ↦ ap (λ b. cond b (Some (own_value f.to)) (along (own_arcs fs) 0)) (eq-eqb f.attribute.0 0 (sym z))
         | inr p ↦
             let none : along (own_arcs (f ∷ fs)) 0 ≡ None = ap (λ b. cond b (Some (own_value f.to)) (along (own_arcs fs) 0)) (ne_eqb f.attribute.0 0 (λ e. omega (arith, e, p))) ∙ later_none f.attribute.0 fs rising in
             let bad : None ≡ Some x = sym none ∙ e in

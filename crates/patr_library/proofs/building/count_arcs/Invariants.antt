@@ -1,5 +1,5 @@
 use Rattle.std.proofs.Common.{◌≡◌, take, length}
-use Rattle.std.specs.List.{sum_by}
+use Rattle.patr_library.proofs.Names.{sum_by}
 use Rattle.patr_library.proofs.building.count_arcs.Given as goal
 
 abbrev pub invariant-loop-offset : goal.invariant-loop-offset

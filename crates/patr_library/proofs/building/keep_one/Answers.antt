@@ -1,9 +1,6 @@
 use Rattle.std.proofs.Common.{◌≡◌, ◌∙◌, ap, subst, rules}
-use Rattle.std.specs.List.{AllByRecursion}
-use Rattle.patr_lists.proofs.Places.{get_there}
-use Rattle.patr_arena.specs.Arenas.{shown_of}
-use Rattle.patr_library.specs.Built.{AreRulesDealt, StaysWithin, numbered, numbered_from}
-use Rattle.patr_library.proofs.KeptRules.{numbered_is, variants_within}
+use Rattle.patr_library.proofs.Names.{AllByRecursion, get_there, shown_of, AreRulesDealt, StaysWithin, numbered, numbered_from}
+use Rattle.patr_library.proofs.Keeping.{numbered_is, variants_within}
 use Rattle.patr_library.proofs.building.keep_one.Goals as goal
 
 pub keep_variants-requires : goal.keep_variants-requires

@@ -1,8 +1,5 @@
 use Rattle.std.proofs.Common.{◌≡◌, ◌∙◌, ap, sym, rules, length, slice_get, Some}
-use Rattle.std.proofs.lemmas.Option.{slice_get-get_or}
-use Rattle.patr_arena.specs.Arenas.{shown_of}
-use Rattle.patr_expand.specs.Seen.{equations_at}
-use Rattle.patr_library.specs.Solved.{IsLeastAt}
+use Rattle.patr_library.proofs.Names.{slice_get-get_or, shown_of, equations_at, IsLeastAt}
 use Rattle.patr_library.proofs.Keeping.{rule_dealt}
 use Rattle.patr_library.proofs.building.keep_rule.Goals as goal
 

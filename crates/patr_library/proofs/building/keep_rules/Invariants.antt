@@ -1,8 +1,5 @@
 use Rattle.std.proofs.Common.{◌≡◌, take, map, None}
-use Rattle.patr_model.specs.Build.{rules_fault}
-use Rattle.patr_grammar.specs.Reading.{rule_seen}
-use Rattle.patr_arena.specs.Arenas.{shown_of}
-use Rattle.patr_library.specs.Built.{AreRulesDealt, all_numbered, variants_of}
+use Rattle.patr_library.proofs.Names.{rules_fault, rule_seen, shown_of, AreRulesDealt, all_numbered, variants_of}
 use Rattle.patr_library.proofs.building.keep_rules.Given as goal
 
 abbrev pub invariant-loop-rule : goal.invariant-loop-rule

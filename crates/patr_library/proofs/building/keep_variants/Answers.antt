@@ -1,9 +1,6 @@
 use Rattle.std.proofs.Common.{◌≡◌, ◌∙◌, ◌+◌, ◌++◌, ◌∷◌, [], sym, ap, subst, arith, take}
-use Rattle.std.proofs.lemmas.List.{take_all}
-use Rattle.patr_arena.specs.Arenas.{shown_of}
-use Rattle.patr_expand.specs.Seen.{variant_at}
-use Rattle.patr_library.specs.Built.{AreRulesDealt, HasNoRule, HasRuleItem, StaysWithin, numbered}
-use Rattle.patr_library.proofs.Keeping.{none_dealt, one_dealt, rule_still, numbered_more, within_at}
+use Rattle.patr_library.proofs.Names.{all_get, take_all, shown_of, variant_at, AreRulesDealt, HasNoRule, HasRuleItem, StaysWithin, numbered}
+use Rattle.patr_library.proofs.Keeping.{none_dealt, one_dealt, rule_still, numbered_more}
 use Rattle.patr_library.proofs.building.keep_variants.Goals as goal
 
 pub loop-variant-init : goal.loop-variant-init
@@ -11,7 +8,7 @@ loop-variant-init c = none_dealt HasRuleItem HasNoRule (shown_of c.args.arena.no
 
 pub keep_rule-requires : goal.keep_rule-requires
 keep_rule-requires c =
-    subst StaysWithin (sym c.variant-item.is) (within_at c.args.variants.now c.loop-variant.variant-index c.variant-item.result c.requires c.loop-variant-test.true)
+    subst StaysWithin (sym c.variant-item.is) (all_get StaysWithin c.args.variants.now c.loop-variant.variant-index c.variant-item.result c.requires c.loop-variant-test.true)
 
 pub loop-variant-preserved : goal.loop-variant-preserved
 loop-variant-preserved c =

@@ -1,6 +1,5 @@
 use Rattle.std.proofs.Common.{take}
-use Rattle.patr_arena.specs.Arenas.{shown_of}
-use Rattle.patr_library.specs.Built.{AreRulesDealt, numbered}
+use Rattle.patr_library.proofs.Names.{shown_of, AreRulesDealt, numbered}
 use Rattle.patr_library.proofs.building.keep_variants.Given as goal
 
 abbrev pub invariant-loop-variant : goal.invariant-loop-variant

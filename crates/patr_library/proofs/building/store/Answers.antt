@@ -1,5 +1,5 @@
-use Rattle.patr_arena.specs.Arenas.{shown_of}
-use Rattle.patr_library.proofs.Owned.{held_anywhere}
+use Rattle.patr_library.proofs.Names.{shown_of}
+use Rattle.patr_library.proofs.Placed.{held_anywhere}
 use Rattle.patr_library.proofs.building.store.Goals as goal
 
 pub push-requires : goal.push-requires

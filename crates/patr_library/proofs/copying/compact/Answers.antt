@@ -1,10 +1,5 @@
 use Rattle.std.proofs.Common.{◌≡◌, ◌∙◌, ◌<◌, ◌+◌, ℕ, List, Option, subst, true, false, ap, length, get_or, sym, rules, arith}
-use Rattle.std.proofs.lemmas.Option.{slice_get-get_or}
-use Rattle.patr_arena.specs.Arenas.{shown_of}
-use Rattle.patr_arena.specs.Shown.{value_of}
-use Rattle.patr_library.specs.Copies.{HasCopy, IsImage, image_at}
-use Rattle.std.proofs.lemmas.List.{get_or_read}
-use Rattle.patr_arena.proofs.Addresses.{value_below}
+use Rattle.patr_library.proofs.Names.{slice_get-get_or, shown_of, value_of, HasCopy, IsImage, image_at, get_or_read, value_below}
 use Rattle.patr_library.proofs.Imaging.{image_is}
 use Rattle.patr_library.proofs.Marking.{arcs_copied, copied_more, first_copied, next_long}
 use Rattle.patr_library.proofs.copying.compact.Goals as goal

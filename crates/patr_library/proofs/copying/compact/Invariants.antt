@@ -1,6 +1,5 @@
 use Rattle.std.proofs.Common.{◌≡◌, length}
-use Rattle.patr_arena.specs.Arenas.{shown_of}
-use Rattle.patr_library.specs.Copies.{AreImages}
+use Rattle.patr_library.proofs.Names.{shown_of, AreImages}
 use Rattle.patr_library.proofs.Marking.{AreCopied}
 use Rattle.patr_library.proofs.copying.compact.Given as goal
 

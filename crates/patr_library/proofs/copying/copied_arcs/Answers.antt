@@ -1,6 +1,5 @@
 use Rattle.std.proofs.Common.{arith, subst, sym}
-use Rattle.patr_arena.specs.Arenas.{shown_of}
-use Rattle.patr_library.specs.Copies.{HasCopy, HaveCopies, IsImage, image_at}
+use Rattle.patr_library.proofs.Names.{shown_of, HasCopy, HaveCopies, IsImage, image_at}
 use Rattle.patr_library.proofs.Imaging.{held_at, copies_more}
 use Rattle.patr_library.proofs.Marking.{copy_of_arc}
 use Rattle.patr_library.proofs.copying.copied_arcs.Goals as goal

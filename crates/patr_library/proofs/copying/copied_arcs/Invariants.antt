@@ -1,7 +1,5 @@
 use Rattle.std.proofs.Common.{take}
-use Rattle.patr_arena.specs.Arenas.{shown_of}
-use Rattle.patr_arena.specs.Shown.{arcs_from}
-use Rattle.patr_library.specs.Copies.{AreCopies, image_at}
+use Rattle.patr_library.proofs.Names.{shown_of, arcs_from, AreCopies, image_at}
 use Rattle.patr_library.proofs.copying.copied_arcs.Given as goal
 
 abbrev pub invariant-loop-arc : goal.invariant-loop-arc

@@ -1,11 +1,5 @@
 use Rattle.std.proofs.Common.{◌≡◌, ◌∙◌, sym, ap, subst, rules, length, arith, ◌<◌, ◌++◌, ◌∷◌, [], Some}
-use Rattle.std.specs.List.Sorted.{IsStrictlyIncreasing}
-use Rattle.patr_model.specs.Structure.{Node, arcs_of}
-use Rattle.patr_arena.specs.Arenas.{shown_of}
-use Rattle.patr_arena.specs.Shown.{number_of}
-use Rattle.patr_arena.proofs.Showing.{held_below}
-use Rattle.patr_library.specs.Copies.{AreCopies, AreImages, image_at}
-use Rattle.patr_library.specs.Own.{IsOwnBlock}
+use Rattle.patr_library.proofs.Names.{IsStrictlyIncreasing, Node, arcs_of, shown_of, number_of, held_below, AreCopies, AreImages, image_at, IsOwnBlock}
 use Rattle.patr_library.proofs.Imaging.{arcs_own, copies_attributes, images_none, images_some}
 use Rattle.patr_library.proofs.copying.copy_next.Goals as goal
 

@@ -1,8 +1,6 @@
 use Rattle.std.proofs.Common.{◌≡◌, Some, None, get_or, arith, rules, ap, subst, sym, ◌∙◌}
-use Rattle.patr_arena.specs.Arenas.{shown_of}
-use Rattle.patr_arena.specs.Shown.{value_of}
-use Rattle.patr_library.specs.Copies.{HasCopy, image_at}
-use Rattle.patr_library.proofs.Marking.{copy_within}
+use Rattle.patr_library.proofs.Names.{shown_of, value_of, HasCopy, image_at}
+use Rattle.patr_library.proofs.Imaging.{copy_within}
 use Rattle.patr_library.proofs.copying.image_of.Goals as goal
 
 pub bounds : goal.bounds

@@ -1,7 +1,5 @@
 use Rattle.std.proofs.Common.{arith, subst}
-use Rattle.patr_arena.specs.Arenas.{shown_of}
-use Rattle.patr_arena.specs.Shown.{ValueIsHeld}
-use Rattle.patr_arena.proofs.Showing.{held_below}
+use Rattle.patr_library.proofs.Names.{shown_of, ValueIsHeld, held_below}
 use Rattle.patr_library.proofs.copying.mark.Goals as goal
 
 pub index_mut-requires : goal.index_mut-requires

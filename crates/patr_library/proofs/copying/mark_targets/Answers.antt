@@ -1,9 +1,5 @@
 use Rattle.std.proofs.Common.{◌∙◌, List, ap, sym, length, arith}
-use Rattle.std.proofs.lemmas.List.{drop_all}
-use Rattle.patr_arena.specs.Arenas.{shown_of}
-use Rattle.patr_arena.specs.Shown.{arcs_from}
-use Rattle.patr_library.specs.Copies.{with_marks}
-use Rattle.patr_arena.specs.declared.value.Feature.{Feature}
+use Rattle.patr_library.proofs.Names.{drop_all, shown_of, arcs_from, with_marks, Feature}
 use Rattle.patr_library.proofs.Imaging.{held_at}
 use Rattle.patr_library.proofs.Marking.{target_marked, value_long}
 use Rattle.patr_library.proofs.copying.mark_targets.Goals as goal

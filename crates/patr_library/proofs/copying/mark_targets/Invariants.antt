@@ -1,7 +1,5 @@
 use Rattle.std.proofs.Common.{◌≡◌, drop, length}
-use Rattle.patr_arena.specs.Arenas.{shown_of}
-use Rattle.patr_arena.specs.Shown.{arcs_from}
-use Rattle.patr_library.specs.Copies.{with_marks}
+use Rattle.patr_library.proofs.Names.{shown_of, arcs_from, with_marks}
 use Rattle.patr_library.proofs.copying.mark_targets.Given as goal
 
 -- what is marked, and then what the arcs that are left lead to, is what all arcs lead to

@@ -1,8 +1,5 @@
 use Rattle.std.proofs.Common.{◌≡◌, ◌∙◌, ◌++◌, ◌∷◌, [], sym, ap, subst, arith, length, zero-add}
-use Rattle.std.proofs.lemmas.List.{append_assoc}
-use Rattle.patr_arena.specs.Arenas.{shown_of}
-use Rattle.patr_arena.specs.Blocks.{with_block}
-use Rattle.patr_library.specs.Own.{ArePlaces, offsets_of}
+use Rattle.patr_library.proofs.Names.{append_assoc, shown_of, with_block, ArePlaces, offsets_of}
 use Rattle.patr_library.proofs.Placed.{offsets_more, places_pushed}
 use Rattle.patr_library.proofs.copying.push.Goals as goal
 

@@ -1,4 +1,4 @@
-use Rattle.patr_library.specs.Own.{ArePlacesUpTo}
+use Rattle.patr_library.proofs.Names.{ArePlacesUpTo}
 use Rattle.patr_library.proofs.copying.push.Given as goal
 
 abbrev pub invariant-loop-offset : goal.invariant-loop-offset

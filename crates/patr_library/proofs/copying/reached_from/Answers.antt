@@ -1,10 +1,5 @@
 use Rattle.std.proofs.Common.{◌≡◌, ◌∙◌, ◌-◌, ◌<◌, ℕ, [], true, false, replicate, get_or, ap, sym, subst, length, arith, rules}
-use Rattle.std.proofs.lemmas.List.{get_or_read}
-use Rattle.std.proofs.lemmas.Option.{slice_get-get_or}
-use Rattle.patr_arena.specs.Arenas.{shown_of}
-use Rattle.patr_library.specs.Copies.{with_marks}
-use Rattle.patr_arena.specs.Shown.{value_of}
-use Rattle.patr_arena.proofs.Addresses.{value_below}
+use Rattle.patr_library.proofs.Names.{get_or_read, slice_get-get_or, shown_of, with_marks, value_of, value_below}
 use Rattle.patr_library.proofs.Marking.{IsMarking, marking_starts, marking_skips, marking_takes, marking_ends}
 use Rattle.patr_library.proofs.copying.reached_from.Goals as goal
 

@@ -1,6 +1,5 @@
 use Rattle.std.proofs.Common.{length, ◌≤◌}
-use Rattle.patr_arena.specs.Arenas.{shown_of}
-use Rattle.patr_arena.specs.Shown.{value_of}
+use Rattle.patr_library.proofs.Names.{shown_of, value_of}
 use Rattle.patr_library.proofs.Marking.{IsMarking}
 use Rattle.patr_library.proofs.copying.reached_from.Given as goal
 

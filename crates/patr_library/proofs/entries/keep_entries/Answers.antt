@@ -1,9 +1,6 @@
-use Rattle.std.proofs.Common.{◌≡◌, refl, arith, get_or, rules}
-use Rattle.std.proofs.lemmas.Result.{err_from_is_err_and}
-use Rattle.patr_arena.specs.Arenas.{shown_of}
-use Rattle.patr_library.specs.Entries.{HasEntryItem, HasNoEntry}
-use Rattle.patr_library.proofs.Keeping.{none_dealt}
-use Rattle.patr_library.proofs.KeptEntries.{entries_next, entry_fault_here}
+use Rattle.std.proofs.Common.{◌≡◌, ◌∙◌, Some, ap, refl, arith, get_or, rules}
+use Rattle.patr_library.proofs.Names.{err_from_is_err_and, slice_get-get_or, shown_of, HasEntryItem, HasNoEntry, entry_variants_of}
+use Rattle.patr_library.proofs.Keeping.{none_dealt, entries_first, fault_here, next_dealt}
 use Rattle.patr_library.proofs.entries.keep_entries.Goals as goal
 
 pub loop-number-init : goal.loop-number-init
@@ -13,12 +10,12 @@ pub loop-number-preserved : goal.loop-number-preserved
 loop-number-preserved c =
     let x = c.index-entries-number.result in
     let is : get_or c.args.entries.now c.loop-number.number x ≡ x = search rules in
-    entries_next c.args.entries.now c.loop-number.number x (shown_of c.args.arena.now) (shown_of c.loop-number.arena) (shown_of c.keep_one.new.arena) c.args.items.now.items c.loop-number.items.items c.keep_one.new.items.items (omega (arith, c.loop-number-test.true)) is
-    c.loop-number.invariant.0 c.loop-number.invariant.1 c.in_ok-keep_one.ensures.dealt c.in_ok-keep_one.ensures.faultless
+    next_dealt entries_first HasEntryItem HasNoEntry entry_variants_of c.args.entries.now c.loop-number.number x (shown_of c.args.arena.now) (shown_of c.loop-number.arena) (shown_of c.keep_one.new.arena) c.args.items.now.items c.loop-number.items.items c.keep_one.new.items.items
+    (slice_get-get_or c.args.entries.now c.loop-number.number x (omega (arith, c.loop-number-test.true)) ∙ ap (λ y. Some y) is) c.loop-number.invariant c.in_ok-keep_one.ensures.dealt c.in_ok-keep_one.ensures.faultless
 
 pub returns-in_err-keep_one-clause-refused : goal.returns-in_err-keep_one-clause-refused
 returns-in_err-keep_one-clause-refused c =
     let x = c.index-entries-number.result in
     let is : get_or c.args.entries.now c.loop-number.number x ≡ x = search rules in
     let p = err_from_is_err_and c.from_residual.result c.from_residual.ensures.1 in
-    rw (p.1, p.2) (entry_fault_here c.args.entries.now c.loop-number.number x c.in_err-keep_one.field-0.0 (omega (arith, c.loop-number-test.true)) is c.loop-number.invariant.1 c.in_err-keep_one.ensures.refused)
+    rw (p.1, p.2) (fault_here entries_first c.args.entries.now c.loop-number.number x c.in_err-keep_one.field-0.0 (slice_get-get_or c.args.entries.now c.loop-number.number x (omega (arith, c.loop-number-test.true)) ∙ ap (λ y. Some y) is) c.loop-number.invariant.1 c.in_err-keep_one.ensures.refused)

@@ -1,9 +1,5 @@
 use Rattle.std.proofs.Common.{◌≡◌, take, map, None}
-use Rattle.patr_model.specs.Build.{entries_fault}
-use Rattle.patr_lexicon.specs.Seen.{entry_seen}
-use Rattle.patr_arena.specs.Arenas.{shown_of}
-use Rattle.patr_library.specs.Built.{all_numbered}
-use Rattle.patr_library.specs.Entries.{AreEntriesDealt, entry_variants_of}
+use Rattle.patr_library.proofs.Names.{entries_fault, entry_seen, shown_of, all_numbered, AreEntriesDealt, entry_variants_of}
 use Rattle.patr_library.proofs.entries.keep_entries.Given as goal
 
 abbrev pub invariant-loop-number : goal.invariant-loop-number

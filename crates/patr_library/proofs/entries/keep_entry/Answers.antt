@@ -1,10 +1,6 @@
 use Rattle.std.proofs.Common.{◌≡◌, arith, sym, subst, rules, length, Some}
-use Rattle.patr_model.specs.Structure.{Node, arc}
-use Rattle.patr_arena.specs.Arenas.{shown_of}
-use Rattle.patr_expand.specs.Seen.{equations_at}
-use Rattle.patr_library.specs.Own.{IsOwn, own_nodes, own_value}
-use Rattle.patr_library.specs.Solved.{IsLeastAt}
-use Rattle.patr_library.proofs.KeptEntries.{entry_dealt}
+use Rattle.patr_library.proofs.Names.{Node, arc, shown_of, equations_at, IsOwn, own_nodes, own_value, IsLeastAt}
+use Rattle.patr_library.proofs.Keeping.{entry_dealt}
 use Rattle.patr_library.proofs.Steps.{first_slot}
 use Rattle.patr_library.proofs.entries.keep_entry.Goals as goal
 

@@ -1,25 +1,17 @@
-use Rattle.std.proofs.Common.{◌≡◌, ◌∙◌, ap, subst, rules}
-use Rattle.patr_model.specs.Grammar.{variants}
-use Rattle.patr_model.specs.Build.{feature_variants}
-use Rattle.patr_grammar.specs.Reading.{features_seen}
-use Rattle.patr_arena.specs.Arenas.{shown_of}
-use Rattle.patr_expand.specs.Seen.{lists_at, number}
-use Rattle.patr_library.specs.Built.{numbered_from}
-use Rattle.patr_library.specs.Entries.{AreEntriesDealt}
-use Rattle.patr_library.proofs.KeptEntries.{all_alone, variants_are}
+use Rattle.std.proofs.Common.{◌≡◌, ap, subst, rules}
+use Rattle.patr_library.proofs.Names.{shown_of, numbered_from, AreEntriesDealt}
+use Rattle.patr_library.proofs.Keeping.{all_alone, variants_are}
 use Rattle.patr_library.proofs.entries.keep_one.Goals as goal
 
 pub keep_variants-requires : goal.keep_variants-requires
 keep_variants-requires c =
     let vs = c.in_ok-variants.variants.items in
     let body : c.deref.result.now ≡ c.args.entry.now.features.items = search rules in
-    let are : lists_at vs ≡ variants (feature_variants number) (features_seen c.args.entry.now.features.items) = c.in_ok-variants.ensures.variants ∙ ap (λ l. variants (feature_variants number) (features_seen l)) body in
-    record { few = c.in_ok-variants.ensures.few; alone = all_alone c.args.entry.now vs (variants_are c.args.entry.now vs are) }
+    record { few = c.in_ok-variants.ensures.few; alone = all_alone c.args.entry.now vs (variants_are c.args.entry.now c.deref.result.now vs body c.in_ok-variants.ensures.variants) }
 
 pub returns-clause-dealt : goal.returns-clause-dealt
 returns-clause-dealt c =
     let vs = c.in_ok-variants.variants.items in
     let body : c.deref.result.now ≡ c.args.entry.now.features.items = search rules in
-    let are : lists_at vs ≡ variants (feature_variants number) (features_seen c.args.entry.now.features.items) = c.in_ok-variants.ensures.variants ∙ ap (λ l. variants (feature_variants number) (features_seen l)) body in
     subst (λ ds. AreEntriesDealt (shown_of c.args.arena.now) (shown_of c.keep_variants.new.arena) ds c.args.items.now.items c.keep_variants.new.items.items)
-    (ap (numbered_from c.args.number 0) (variants_are c.args.entry.now vs are)) c.in_ok-keep_variants.ensures
+    (ap (numbered_from c.args.number 0) (variants_are c.args.entry.now c.deref.result.now vs body c.in_ok-variants.ensures.variants)) c.in_ok-keep_variants.ensures

@@ -1,7 +1,5 @@
 use Rattle.std.proofs.Common.{◌≡◌, ◌∙◌, ◌++◌, sym, ap, rules}
-use Rattle.std.proofs.lemmas.List.{map-append}
-use Rattle.patr_expand.specs.Seen.{equation_at, equations_at}
-use Rattle.patr_library.specs.Entries.{variant_of}
+use Rattle.patr_library.proofs.Names.{map-append, equation_at, equations_at, variant_of}
 use Rattle.patr_library.proofs.entries.keep_variant.Goals as goal
 
 pub returns : goal.returns

@@ -1,11 +1,6 @@
 use Rattle.std.proofs.Common.{◌≡◌, ◌∙◌, ◌++◌, ◌∷◌, [], length, length-append, map, refl, sym, ap, subst, rules, arith, append_assoc, append-nil}
-use Rattle.std.specs.Vec.Iter.{into_iter_items, into_iter_len}
-use Rattle.std.proofs.lemmas.List.{nil_from_length}
-use Rattle.patr_arena.specs.Arenas.{shown_of}
-use Rattle.patr_library.specs.Built.{numbered_from}
-use Rattle.patr_library.specs.Entries.{AreEntriesDealt, HasEntryItem, HasNoEntry, StaysAlone, variant_of}
-use Rattle.patr_library.proofs.Keeping.{none_dealt, one_dealt}
-use Rattle.patr_library.proofs.KeptEntries.{among, entry_still, variant_more}
+use Rattle.patr_library.proofs.Names.{AllByRecursion, all_right, into_iter_items, into_iter_len, nil_from_length, shown_of, numbered_from, AreEntriesDealt, HasEntryItem, HasNoEntry, StaysAlone, variant_of}
+use Rattle.patr_library.proofs.Keeping.{none_dealt, one_dealt, entry_still, variant_more}
 use Rattle.patr_library.proofs.entries.keep_variants.Goals as goal
 
 pub loop-features-init : goal.loop-features-init
@@ -19,7 +14,7 @@ keep_variant-requires c =
     let x = c.in-Some.features in
     let steps : into_iter_items at.features-iterator ≡ x ∷ into_iter_items c.next.new.self = c.in-Some.ensures.steps.0 in
     let whole = ap (λ l. at.yielded ++ l) (sym steps) ∙ (at.invariant.0 ∙ c.into_iter-features-iterator.ensures.into_iter_gives.0) in
-    among (StaysAlone c.args.entry.now) at.yielded (into_iter_items c.next.new.self) x c.args.variants.items whole c.requires.alone
+    (all_right (StaysAlone c.args.entry.now) at.yielded (x ∷ into_iter_items c.next.new.self) (subst (AllByRecursion (StaysAlone c.args.entry.now)) (sym whole) c.requires.alone)).0
 
 pub overflow_add-variant : goal.overflow_add-variant
 overflow_add-variant c =

@@ -1,8 +1,5 @@
 use Rattle.std.proofs.Common.{◌≡◌, ◌++◌, length, map}
-use Rattle.std.specs.Vec.Iter.{into_iter_items, into_iter_len}
-use Rattle.patr_arena.specs.Arenas.{shown_of}
-use Rattle.patr_library.specs.Built.{numbered_from}
-use Rattle.patr_library.specs.Entries.{AreEntriesDealt, variant_of}
+use Rattle.patr_library.proofs.Names.{into_iter_items, into_iter_len, shown_of, numbered_from, AreEntriesDealt, variant_of}
 use Rattle.patr_library.proofs.entries.keep_variants.Given as goal
 
 abbrev pub invariant-loop-features : goal.invariant-loop-features

@@ -1,7 +1,6 @@
 use Rattle.std.proofs.Common.{◌∙◌, List, Some, ap, sym, get_or}
-use Rattle.patr_arena.specs.declared.value.Feature.{Feature}
+use Rattle.patr_library.proofs.Names.{Feature, own_value}
 use Rattle.patr_arena.specs.declared.value.Ref.TheVariants as ref
-use Rattle.patr_library.specs.Own.{own_value}
 use Rattle.patr_library.proofs.Steps.{slot_first}
 use Rattle.patr_library.proofs.entries.slot_value.Goals as goal
 

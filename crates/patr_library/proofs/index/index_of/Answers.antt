@@ -1,5 +1,5 @@
 use Rattle.std.proofs.Common.{◌∙◌, arith}
-use Rattle.patr_library.proofs.Listing.{index_next}
+use Rattle.patr_library.proofs.Merged.{index_next}
 use Rattle.patr_library.proofs.index.index_of.Goals as goal
 
 pub loop-place-preserved : goal.loop-place-preserved

@@ -1,6 +1,5 @@
 use Rattle.std.proofs.Common.{◌≡◌, ℕ, [], get_or, take}
-use Rattle.patr_lists.specs.Numbers.{places}
-use Rattle.patr_library.specs.Lists.{has_key}
+use Rattle.patr_library.proofs.Names.{places, has_key}
 use Rattle.patr_library.proofs.index.index_of.Given as goal
 
 abbrev pub invariant-loop-place : goal.invariant-loop-place

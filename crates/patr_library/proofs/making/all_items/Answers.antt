@@ -1,8 +1,5 @@
 use Rattle.std.proofs.Common.{◌∙◌, ap, arith, length, map, subst}
-use Rattle.patr_model.specs.Build.{in_lexicon}
-use Rattle.patr_arena.specs.Arenas.{shown_of}
-use Rattle.patr_library.specs.Built.{AreRulesDealt, all_numbered, variants_of}
-use Rattle.patr_library.specs.Entries.{AreEntriesDealt, entry_variants_of}
+use Rattle.patr_library.proofs.Names.{in_lexicon, shown_of, AreRulesDealt, all_numbered, variants_of, AreEntriesDealt, entry_variants_of}
 use Rattle.patr_library.proofs.Merged.{has_items, fault_is}
 use Rattle.patr_library.proofs.making.all_items.Goals as goal
 

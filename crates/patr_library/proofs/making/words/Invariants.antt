@@ -1,5 +1,5 @@
 use Rattle.std.proofs.Common.{◌≡◌, map, take, Some}
-use Rattle.patr_library.specs.Stored.{word_at}
+use Rattle.patr_library.proofs.Names.{word_at}
 use Rattle.patr_library.proofs.making.words.Given as goal
 
 abbrev pub invariant-loop-item : goal.invariant-loop-item

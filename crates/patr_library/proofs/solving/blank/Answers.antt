@@ -1,11 +1,6 @@
 use Rattle.std.proofs.Common.{◌≡◌, ◌∙◌, ◌++◌, ◌∷◌, [], List, sym, ap, subst, arith, rules, length, replicate, zero-add}
-use Rattle.std.proofs.lemmas.List.{length-replicate}
-use Rattle.std.specs.List.Sorted.{IsStrictlyIncreasing}
+use Rattle.patr_library.proofs.Names.{length-replicate, IsStrictlyIncreasing, Feature, attributes, AllOwn, slot_features}
 use Rattle.patr_arena.specs.declared.value.Ref.TheVariants as ref
-use Rattle.patr_arena.specs.declared.value.Feature.{Feature}
-use Rattle.patr_arena.specs.Blocks.{attributes}
-use Rattle.patr_library.specs.Own.{AllOwn}
-use Rattle.patr_library.specs.Solved.{slot_features}
 use Rattle.patr_library.proofs.Steps.{blanks_more, features_more, features_rise, features_own, blank_is_least}
 use Rattle.patr_library.proofs.solving.blank.Goals as goal
 

@@ -1,6 +1,5 @@
 use Rattle.std.proofs.Common.{◌≡◌, [], replicate}
-use Rattle.patr_library.specs.Own.{IsOwnBlock}
-use Rattle.patr_library.specs.Solved.{slot_features}
+use Rattle.patr_library.proofs.Names.{IsOwnBlock, slot_features}
 use Rattle.patr_library.proofs.solving.blank.Given as goal
 
 abbrev pub invariant-loop-slot : goal.invariant-loop-slot

@@ -1,9 +1,6 @@
-use Rattle.std.proofs.Common.{◌≡◌, ◌∙◌, ◌++◌, ◌∷◌, [], sym, ap, subst, arith, take, drop, ◌+◌, ◌<◌, length, IfNone, IfSome}
-use Rattle.std.proofs.lemmas.List.{take_all}
-use Rattle.patr_model.specs.Variants.{AreWithin}
-use Rattle.patr_expand.specs.Seen.{equation_at, equations_at}
-use Rattle.patr_library.specs.Solved.{HasNone, IsLeastAt}
-use Rattle.patr_library.proofs.Steps.{first_slot, taken_more, all_of, within_taken, none_still}
+use Rattle.std.proofs.Common.{◌≡◌, ◌++◌, ◌∷◌, [], sym, subst, arith, take, drop, ◌+◌, IfNone, IfSome}
+use Rattle.patr_library.proofs.Names.{take_all, equation_at, equations_at, HasNone, IsLeastAt}
+use Rattle.patr_library.proofs.Steps.{first_slot, taken_more, all_of, none_still}
 use Rattle.patr_library.proofs.solving.solved_in_turn.Goals as goal
 
 pub with_equation-requires-clause-rooted : goal.with_equation-requires-clause-rooted
@@ -20,11 +17,9 @@ returns-in_default-clause-none c =
     let i = c.loop-equation.equation-index in
     let e = c.equation-item.result in
     let n = c.args.slots in
-    let below : i < length xs = omega (arith, c.loop-equation-test.true, c.loop-equation.auto.equation-index-end) in
-    let is : equations_at (take (i + 1) xs) ≡ equations_at (take i xs) ++ equation_at e ∷ [] = taken_more equation_at xs i e below ∙ ap (λ x. equations_at (take i xs) ++ equation_at x ∷ []) (sym c.equation-item.is) in
-    let within : AreWithin n (equations_at (take i xs) ++ equation_at e ∷ []) = subst (AreWithin n) is (within_taken equation_at n xs (i + 1) c.requires.within) in
-    let none : HasNone n (equations_at (take i xs) ++ equation_at e ∷ []) = subst (λ o. IfNone o (HasNone n (equations_at (take i xs) ++ equation_at e ∷ []))) c.in_default.is (c.in_ok-next.ensures.none n (equations_at (take i xs)) c.loop-equation.invariant within) in
-    subst (HasNone n) (sym (all_of equation_at xs (i + 1))) (none_still n (equations_at (take (i + 1) xs)) (equations_at (drop (i + 1) xs)) (subst (HasNone n) (sym is) none))
+    let more = taken_more equation_at n xs i e (omega (arith, c.loop-equation-test.true, c.loop-equation.auto.equation-index-end)) c.equation-item.is c.requires.within in
+    let none : HasNone n (equations_at (take i xs) ++ equation_at e ∷ []) = subst (λ o. IfNone o (HasNone n (equations_at (take i xs) ++ equation_at e ∷ []))) c.in_default.is (c.in_ok-next.ensures.none n (equations_at (take i xs)) c.loop-equation.invariant more.1) in
+    subst (HasNone n) (sym (all_of equation_at xs (i + 1))) (none_still n (equations_at (take (i + 1) xs)) (equations_at (drop (i + 1) xs)) (subst (HasNone n) (sym more.0) none))
 
 pub loop-equation-preserved : goal.loop-equation-preserved
 loop-equation-preserved c =
@@ -33,11 +28,9 @@ loop-equation-preserved c =
     let e = c.equation-item.result in
     let n = c.args.slots in
     let m = c.in-Some.next in
-    let below : i < length xs = omega (arith, c.loop-equation-test.true, c.loop-equation.auto.equation-index-end) in
-    let is : equations_at (take (i + 1) xs) ≡ equations_at (take i xs) ++ equation_at e ∷ [] = taken_more equation_at xs i e below ∙ ap (λ x. equations_at (take i xs) ++ equation_at x ∷ []) (sym c.equation-item.is) in
-    let within : AreWithin n (equations_at (take i xs) ++ equation_at e ∷ []) = subst (AreWithin n) is (within_taken equation_at n xs (i + 1) c.requires.within) in
-    let some : IsLeastAt n (equations_at (take i xs) ++ equation_at e ∷ []) m.block m.root = subst (λ o. IfSome o (λ made. IsLeastAt n (equations_at (take i xs) ++ equation_at e ∷ []) made.block made.root)) c.in-Some.is (c.in_ok-next.ensures.some n (equations_at (take i xs)) c.loop-equation.invariant within) in
-    subst (λ es. IsLeastAt n es m.block m.root) (sym is) some
+    let more = taken_more equation_at n xs i e (omega (arith, c.loop-equation-test.true, c.loop-equation.auto.equation-index-end)) c.equation-item.is c.requires.within in
+    let some : IsLeastAt n (equations_at (take i xs) ++ equation_at e ∷ []) m.block m.root = subst (λ o. IfSome o (λ made. IsLeastAt n (equations_at (take i xs) ++ equation_at e ∷ []) made.block made.root)) c.in-Some.is (c.in_ok-next.ensures.some n (equations_at (take i xs)) c.loop-equation.invariant more.1) in
+    subst (λ es. IsLeastAt n es m.block m.root) (sym more.0) some
 
 pub returns-clause-some : goal.returns-clause-some
 returns-clause-some c =

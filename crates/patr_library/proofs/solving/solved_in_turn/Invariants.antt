@@ -1,6 +1,5 @@
 use Rattle.std.proofs.Common.{take}
-use Rattle.patr_expand.specs.Seen.{equations_at}
-use Rattle.patr_library.specs.Solved.{IsLeastAt}
+use Rattle.patr_library.proofs.Names.{equations_at, IsLeastAt}
 use Rattle.patr_library.proofs.solving.solved_in_turn.Given as goal
 
 abbrev pub invariant-loop-equation : goal.invariant-loop-equation

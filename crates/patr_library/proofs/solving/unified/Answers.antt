@@ -1,13 +1,8 @@
 use Rattle.std.proofs.Common.{[], subst, rules}
-use Rattle.patr_model.specs.Structure.{Value, Structure, Node}
-use Rattle.patr_model.specs.Subsumption.{Same, TakesBoth}
-use Rattle.patr_arena.specs.Arenas.{shown_of}
-use Rattle.patr_arena.specs.Shown.{number_of, value_of}
-use Rattle.patr_unify.specs.Copying.{IsMade}
-use Rattle.patr_library.specs.Own.{IsRooted, own_nodes, own_value}
-use Rattle.patr_library.proofs.Owned.{held_anywhere}
+use Rattle.patr_library.proofs.Names.{Value, Structure, Node, Same, TakesBoth, shown_of, number_of, value_of, IsMade, IsRooted, own_nodes, own_value}
+use Rattle.patr_library.proofs.Placed.{held_anywhere}
 use Rattle.patr_library.proofs.Steps.{same_none, still_new}
-use Rattle.patr_library.proofs.Unified.{blocks_unified, sides}
+use Rattle.patr_library.proofs.Parts.{blocks_unified, sides}
 use Rattle.patr_library.proofs.solving.unified.Goals as goal
 
 pub push-requires-clause-block : goal.push-requires-clause-block

@@ -1,8 +1,6 @@
 use Rattle.std.proofs.Common.{◌≡◌, ◌++◌, ◌∷◌, [], rules, None}
+use Rattle.patr_library.proofs.Names.{equation_at, IsStatement, pointed, HasNone, IsLeastAt, IsUnified, TakeNone}
 use Rattle.patr_model.specs.Variants as model
-use Rattle.patr_expand.specs.Seen.{equation_at}
-use Rattle.patr_library.specs.Own.{IsStatement, pointed}
-use Rattle.patr_library.specs.Solved.{HasNone, IsLeastAt, IsUnified, TakeNone}
 use Rattle.patr_library.proofs.Placing.{each_some, each_none}
 use Rattle.patr_library.proofs.Steps.{least_more, none_more, none_at_once}
 use Rattle.patr_library.proofs.solving.with_equation.Goals as goal

@@ -1,6 +1,5 @@
 use Rattle.std.proofs.Common.{◌≤◌, drop, length}
-use Rattle.patr_arena.specs.Paths.{ids}
-use Rattle.patr_library.specs.Own.{IsLedTo}
+use Rattle.patr_library.proofs.Names.{ids, IsLedTo}
 use Rattle.patr_library.proofs.stating.lead.Given as goal
 
 abbrev pub invariant-loop-left : goal.invariant-loop-left

@@ -1,7 +1,5 @@
 use Rattle.std.proofs.Common.{◌≡◌, subst, drop, rules, sym, ap, ◌∙◌, None}
-use Rattle.patr_model.specs.EquationStructures.{led, one_place}
-use Rattle.patr_arena.specs.Paths.{ids}
-use Rattle.patr_library.specs.Own.{ArePartedAt, IsPlaceOf, own_nodes, own_value, pointed}
+use Rattle.patr_library.proofs.Names.{led, one_place, ids, ArePartedAt, IsPlaceOf, own_nodes, own_value, pointed}
 use Rattle.patr_library.proofs.Placing.{parted_at, place_led, place_none}
 use Rattle.patr_library.proofs.stating.one_place.Goals as goal
 

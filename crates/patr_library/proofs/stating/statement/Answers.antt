@@ -1,9 +1,5 @@
 use Rattle.std.proofs.Common.{◌≡◌, ◌∙◌, sym, ap, rules, []}
-use Rattle.patr_model.specs.Structure.{Atom}
-use Rattle.patr_model.specs.EquationStructures.{led}
-use Rattle.patr_expand.specs.Seen.{equation_at, term_at, path_at}
-use Rattle.patr_arena.specs.Paths.{ids}
-use Rattle.patr_library.specs.Own.{IsRooted, IsPlaceOf, IsStatement, own_nodes, pointed}
+use Rattle.patr_library.proofs.Names.{Atom, led, equation_at, term_at, path_at, ids, IsRooted, IsPlaceOf, IsStatement, own_nodes, pointed}
 use Rattle.patr_library.proofs.Placing.{atom_stated, place_stated, each_some}
 use Rattle.patr_library.proofs.stating.statement.Goals as goal
 

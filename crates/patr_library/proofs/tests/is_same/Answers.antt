@@ -1,9 +1,8 @@
 use Rattle.std.proofs.Common.{sym, subst}
-use Rattle.patr_arena.specs.Shown.{ValueIsHeld}
+use Rattle.patr_library.proofs.Names.{ValueIsHeld}
 use Rattle.patr_arena.specs.Sentences.{sentence_of}
-use Rattle.patr_library.proofs.Keeping.{further}
-use Rattle.patr_library.proofs.KeptEntries.{value_still}
-use Rattle.patr_library.proofs.Owned.{held_anywhere}
+use Rattle.patr_library.proofs.Keeping.{further, value_still}
+use Rattle.patr_library.proofs.Placed.{held_anywhere}
 use Rattle.patr_library.proofs.tests.is_same.Goals as goal
 
 pub push-requires : goal.push-requires

@@ -1,11 +1,5 @@
 use Rattle.std.proofs.Common.{◌≡◌, ◌∙◌, None, Some, ap, arith, length, map, refl, sym, subst, rules}
-use Rattle.std.proofs.lemmas.List.{length-map}
-use Rattle.patr_model.specs.Build.{build_fault}
-use Rattle.patr_text.specs.declared.symbols.Id.{Id}
-use Rattle.patr_arena.specs.Arenas.{shown_of}
-use Rattle.patr_library.specs.declared.item.EntryItem.{EntryItem}
-use Rattle.patr_library.specs.declared.item.RuleItem.{RuleItem}
-use Rattle.patr_library.specs.Stored.{AreOfEntries, HasItems, built_rules, entries_of, grammar_of, word_at}
+use Rattle.patr_library.proofs.Names.{length-map, build_fault, Id, shown_of, EntryItem, RuleItem, AreOfEntries, HasItems, built_rules, entries_of, grammar_of, word_at}
 use Rattle.patr_library.proofs.Merged.{entries_there, mothers_found, words_found}
 use Rattle.patr_library.proofs.library.Library.build.Goals as goal
 
