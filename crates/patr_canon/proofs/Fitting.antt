@@ -1,11 +1,6 @@
 -- Numbers of a canonical text are at most as many as its bytes.
 use Rattle.std.proofs.Common.{◌≡◌, ℕ, suc, ◌<◌, ◌≤◌, ◌^◌, Bool, true, false, cond, List, [], ◌∷◌, ◌++◌, length, length-append, Option, Some, None, is_some, refl, arith}
-use Rattle.std.specs.List.{AllByRecursion}
-use Rattle.patr_model.specs.Stack.{Event, events, events_of}
-use Rattle.patr_model.specs.Structure.{Structure, Value}
-use Rattle.patr_model.specs.Text.{Look, Outline, Branches, Leaf, Again, Begun, Done, Branch, branches_text, canonical, from_one, kept, number_in, number_mark, outline, outline_text, place_in, printed, renumbered, renumbered_all, repeats, spelled, spelled_all, tree_of, visits, visits_of}
-use Rattle.patr_model.proofs.Places.{place_there}
-use Rattle.patr_canon.specs.Items.{EventFits}
+use Rattle.patr_canon.proofs.Names.{Again, AllByRecursion, Begun, Branch, Branches, Done, Event, EventFits, Leaf, Look, Outline, Structure, Value, branches_text, canonical, events, events_of, from_one, kept, number_in, number_mark, outline, outline_text, place_in, place_there, printed, renumbered, renumbered_all, repeats, spelled, spelled_all, tree_of, visits, visits_of}
 
 kept_length : (these xs : List ℕ) → length (kept these xs) ≤ length xs
 kept_length these [] = omega arith

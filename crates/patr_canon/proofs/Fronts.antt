@@ -1,15 +1,10 @@
 -- Fronts of texts: where they end, and what is read of them.
 use Rattle.std.proofs.Common.{◌≡◌, ◌≢◌, ℕ, zero, suc, ◌+◌, ◌*◌, ◌-◌, ◌<◌, ◌≤◌, Bool, true, false, cond, not, ◌&&◌, ◌||◌, nat_eq, nat_lt, eqb-true, ltb-true, lt-ltb, true≢false, List, [], ◌∷◌, ◌++◌, length, take, drop, get_or, append_assoc, append-nil, Option, Some, None, option_map, option_copied, refl, sym, ap, ◌∙◌, subst, arith}
 use Rattle.std.specs.Option.{MatchOption}
-use Rattle.std.specs.List.{prefix_len}
-use Rattle.std.specs.Str.{IsUtf8, IsCharBoundary}
-use Rattle.std.proofs.lemmas.List.{drop_more}
-use Rattle.std.proofs.lemmas.List.Sums.{prefix_len-le-length, prefix_len_passes, prefix_len_stops}
+use Rattle.patr_canon.proofs.Names.{Front, IsCharBoundary, IsUtf8, bare_front, bare_step, changed, digits_front, digits_step, drop_more, is_digit, is_end, prefix_len, prefix_len-le-length, prefix_len_passes, prefix_len_stops, quoted_front, quoted_step, skip}
 use Rattle.std.proofs.lemmas.Str.{IsCharBoundary-before_ascii, IsCharBoundary-after_ascii, IsCharBoundary-end, IsCharBoundary-start, inside_one, encode_ascii, length-encode, len_utf8_bounds}
 use lib.Utf8.{encode}
 use denote.Ref.{Bor}
-use Rattle.patr_model.specs.Bytes.{is_digit}
-use Rattle.patr_model.specs.Reading.{Front, changed, skip, is_end, bare_step, bare_front, quoted_step, quoted_front, digits_step, digits_front}
 use Rattle.patr_model.proofs.Spelling.{skip_back}
 
 -- ---- one character at the front

@@ -1,22 +1,13 @@
 -- The nodes that have numbers.
 use Rattle.std.proofs.Common.{◌≡◌, ℕ, zero, suc, ◌+◌, ◌<◌, ◌≤◌, Bool, true, false, cond, not, ◌||◌, nat_eq, nat_lt, ltb-true, ltb-false, lt-ltb, true≢false, List, [], ◌∷◌, ◌++◌, append-nil, flat_map, length, take, drop, get_or, Option, Some, None, option_map, is_some, slice_get, refl, sym, ap, ◌∙◌, subst, arith}
-use Rattle.std.proofs.lemmas.List.{append_assoc, map-append, take_more, drop_more, take-append-drop}
+use Rattle.patr_canon.proofs.Names.{Again, AllByRecursion, AreOnce, Begun, Branch, Branches, Closes, Done, Event, EventsAreNumbered, EventsTell, IsDone, IsStructure, IsValue, Leaf, Look, OfAgain, OfArc, OfAtom, Opens, Outline, Structure, Value, again_of, append_assoc, canonical, drop_more, event_seen, event_text, events, events_of, events_seen, from_one, kept, list_any, map-append, met_again, number_by, number_in, opened, opened_of, outline, place_in, place_longer, place_there, position, position_or_len, renumbered, renumbered_all, repeats, some_inj, take-append-drop, take_more, tree_of, visits}
 use Rattle.std.specs.HashSet.{HashSet, contains}
-use Rattle.std.specs.List.{AllByRecursion, list_any, position, position_or_len}
-use Rattle.patr_model.specs.Structure.{Value, Structure, IsStructure, IsValue}
-use Rattle.patr_model.specs.Stack.{Event, OfAtom, OfAgain, Opens, OfArc, Closes, event_text, events, events_of, met_again, opened}
-use Rattle.patr_model.specs.Text.{Look, Outline, Branches, Leaf, Again, Begun, Done, Branch, canonical, from_one, kept, number_in, outline, renumbered, renumbered_all, place_in, repeats, tree_of, visits}
-use Rattle.patr_model.specs.Laws.{EventsTell}
 use Rattle.patr_model.proofs.Keyed as keyed
 use Rattle.patr_model.proofs.Numbered.{tree_numbers}
-use Rattle.patr_model.proofs.Places.{place_longer, place_there}
 use Rattle.patr_model.proofs.Placed.{outline_is, walk_is_whole}
 use Rattle.patr_model.proofs.Rebuilt.{AreNumbers, AreNumbersOf}
 use Rattle.patr_model.proofs.Stack.{walks_by_stack, opened_append}
-use Rattle.patr_model.proofs.Maps.{some_inj}
 use Rattle.patr_canon.specs.declared.event.Event as its
-use Rattle.patr_canon.specs.Numbers.{AreOnce, EventsAreNumbered, again_of, number_by, opened_of}
-use Rattle.patr_canon.specs.Walks.{IsDone, event_seen, events_seen}
 use Rattle.patr_canon.proofs.Walks.{done_more}
 
 -- the one node, or none

@@ -1,33 +1,16 @@
 -- A text that some value of a structure has is read back.
 use Rattle.std.proofs.Common.{◌≡◌, ℕ, ◌<◌, ◌^◌, Bool, true, false, true≢false, ltb-true, List, [], ◌∷◌, map, length, Some, None, option_map, refl, sym, ap, ◌∙◌, subst, arith, zero-add}
 use Rattle.std.specs.Bool.{MatchBool}
-use Rattle.std.specs.Str.{bytes_eq}
-use Rattle.std.proofs.lemmas.List.{length-map}
+use Rattle.patr_canon.proofs.Names.{AreMoved, Atom, Feature, HasBuilt, HasText, IsBelow, IsBlock, IsBuiltOf, IsCanonical, IsMade, IsReadBack, IsStructure, IsValue, IsWritten, Node, NodesAreBelow, OfValue, Outline, RefIsHeld, Target, Value, ValueIsHeld, arc, arcs_from, built, bytes_eq, canonical, is_below, length-map, nodes_seen, nothing, outline, reads, ref_of, ref_seen, some_inj, structure_of, table_look, target_seen, value_of, value_seen, with_block}
 use Rattle.std.proofs.lemmas.Slice.Eq.{bytes_eq-Decides}
-use Rattle.patr_model.specs.Laws.{OfValue}
-use Rattle.patr_model.specs.Reading.{HasText, built, is_below}
-use Rattle.patr_model.specs.Structure.{Value, Atom, Node, arc, IsBelow, IsStructure, IsValue}
 use Rattle.patr_model.specs.Subsumption.{Same}
-use Rattle.patr_model.specs.Table.{table_look}
-use Rattle.patr_model.specs.Text.{Outline, canonical, outline}
 use Rattle.patr_model.proofs.Canonical.{one_text, outline_built, below_true}
-use Rattle.patr_model.proofs.Items.{reads}
 use Rattle.patr_model.proofs.Local.{local}
-use Rattle.patr_model.proofs.Maps.{some_inj}
 use Rattle.patr_model.proofs.Rebuilt.{IsRebuilt}
-use Rattle.patr_arena.specs.declared.value.Feature.{Feature}
-use Rattle.patr_arena.specs.Blocks.{IsBlock, nothing, with_block}
-use Rattle.patr_arena.specs.Shown.{RefIsHeld, ValueIsHeld, arcs_from, ref_of, value_of}
 use Rattle.patr_arena.proofs.RowsShow.{nothing_shown}
 use Rattle.patr_arena.proofs.Showing.{blocks_shown}
 use Rattle.patr_canon.specs.declared.reader.Reader.{Reader}
-use Rattle.patr_canon.specs.declared.reader.Target.{Target}
 use Rattle.patr_canon.specs.declared.reader.Target.TheVariants as target
-use Rattle.patr_canon.specs.Built.{HasBuilt, IsBuiltOf, IsWritten}
-use Rattle.patr_canon.specs.Made.{AreMoved, IsMade, ref_seen, value_seen}
-use Rattle.patr_canon.specs.Nodes.{NodesAreBelow}
-use Rattle.patr_canon.specs.ReadBack.{IsCanonical, IsReadBack, structure_of}
-use Rattle.patr_canon.specs.Readers.{nodes_seen, target_seen}
 use Rattle.patr_canon.proofs.Fitting.{outline_fits}
 use Rattle.patr_canon.proofs.Moved.{moved_length}
 use Rattle.patr_canon.proofs.SameNodes.{moved_all, of_block, one_way, root_below, so_many}

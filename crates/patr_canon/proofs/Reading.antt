@@ -1,16 +1,9 @@
 -- What the reader has after an event.
 use Rattle.std.proofs.Common.{◌≡◌, ℕ, ◌+◌, true, false, cond, nat_eq, true≢false, List, [], ◌∷◌, ◌++◌, map, length, Option, Some, None, is_some, Vec, refl, sym, ap, ◌∙◌}
-use Rattle.std.proofs.lemmas.List.{map-append, reverse-append, length-map, length-append}
+use Rattle.patr_canon.proofs.Names.{ArePlaces, Global, Link, Node, Value, end_node, half_seen, length-append, length-map, link_seen, links_seen, map-append, nodes_seen, place_in, put_value, reverse-append, stack_seen}
 use Rattle.std.specs.HashMap as hash
 use Rattle.std.specs.HashMap.{HashMap}
-use Rattle.std.specs.declared.alloc.Global.{Global}
-use Rattle.patr_model.specs.Stack.{end_node, put_value}
-use Rattle.patr_model.specs.Structure.{Value, Node}
-use Rattle.patr_model.specs.Text.{place_in}
 use Rattle.patr_canon.specs.declared.reader.Begun.{Begun}
-use Rattle.patr_canon.specs.declared.reader.Link.{Link}
-use Rattle.patr_canon.specs.Orders.{ArePlaces}
-use Rattle.patr_canon.specs.Readers.{half_seen, link_seen, links_seen, nodes_seen, stack_seen}
 use Rattle.patr_canon.proofs.Orders.{place_added, place_had}
 
 -- ---- numbers

@@ -1,27 +1,14 @@
 -- The reader's loop: one event after another.
 use Rattle.std.proofs.Common.{◌≡◌, ℕ, zero, suc, ◌+◌, ◌<◌, ◌≤◌, true, false, List, [], ◌∷◌, ◌++◌, length, slice_get, append_assoc, append-nil, length-append, Option, Some, None, option_map, Vec, refl, sym, ap, ◌∙◌, subst, arith}
-use Rattle.std.specs.List.{AllByRecursion}
+use Rattle.patr_canon.proofs.Names.{AllByRecursion, Arc, Arcs, ArePlaces, Atom, Building, Closes, Event, EventFits, EventIsSpelled, Global, Half, HasFed, IsItem, IsLookOf, Link, Look, Node, OfAgain, OfArc, OfAtom, OfValue, Opens, Outline, Structure, Target, Value, building, building_seen, built, end_node, event_seen, events, expect_behind, fed, fed_one, nodes_seen, numbered_place, place_in, put_value, reads, set_attribute, stack_seen, target_seen}
 use Rattle.patr_model.specs.Items.{Expect, AValue, AFirst, ANext, Follows, text_of}
-use Rattle.patr_model.specs.Laws.{OfValue}
-use Rattle.patr_model.specs.Reading.{built, numbered_place}
-use Rattle.patr_model.specs.Stack.{Event, OfAtom, OfAgain, Opens, OfArc, Closes, Building, Half, building, end_node, events, fed, fed_one, put_value, set_attribute}
-use Rattle.patr_model.specs.Structure.{Value, Atom, Node, Arc, Arcs, Structure}
-use Rattle.patr_model.specs.Text.{Look, Outline, place_in}
 use Rattle.patr_model.proofs.Building.{builds}
-use Rattle.patr_model.proofs.Items.{reads}
 use Rattle.patr_text.specs.Texts.{Extends}
 use denote.Ref.{Bor}
-use Rattle.std.specs.declared.alloc.Global.{Global}
 use Rattle.patr_canon.specs.declared.event.Event as its
 use Rattle.patr_canon.specs.declared.reader.Begun.{Begun}
-use Rattle.patr_canon.specs.declared.reader.Link.{Link}
-use Rattle.patr_canon.specs.declared.reader.Target.{Target}
 use Rattle.patr_canon.specs.Built.{ArcIsBelow, ArcsAreBelow, HalfIsBelow, HasBuilt, IsBelow, IsWritten, RootIsBelow}
-use Rattle.patr_canon.specs.Items.{EventFits, IsItem, IsLookOf, expect_behind}
-use Rattle.patr_canon.specs.Orders.{ArePlaces}
-use Rattle.patr_canon.specs.Readers.{HasFed, building_seen, nodes_seen, stack_seen, target_seen}
 use Rattle.patr_canon.specs.declared.reader.Reader.{Reader}
-use Rattle.patr_canon.specs.Walks.{EventIsSpelled, event_seen}
 
 -- ---- symbols have texts
 

@@ -1,16 +1,6 @@
 use Rattle.std.proofs.Common.{◌≡◌, Some, None, Vec, ℕ, ◌<◌, ◌^◌, List, Option, ◌+◌, ◌-◌, length, arith, subst, sym, ap, ◌∙◌}
 use Rattle.std.specs.Option.{option_map}
-use Rattle.std.specs.declared.alloc.Global.{Global}
-use Rattle.patr_arena.specs.Paths.{ids}
-use Rattle.patr_canon.specs.Built.{HasBuilt, IsReadBelow, RootIsBelow}
-use Rattle.patr_model.specs.Laws.{OfValue}
-use Rattle.patr_model.specs.Reading.{is_below}
-use Rattle.patr_arena.specs.declared.value.Ref.{Ref}
-use Rattle.patr_canon.specs.declared.reader.Link.{Link}
-use Rattle.patr_canon.specs.Made.{AreMoved, IsMade}
-use Rattle.patr_canon.specs.ReadBack.{IsReadBack}
-use Rattle.patr_canon.specs.Readers.{target_seen}
-use Rattle.patr_canon.specs.declared.reader.Target.{Target}
+use Rattle.patr_canon.proofs.Names.{AreMoved, Global, HasBuilt, IsMade, IsReadBack, IsReadBelow, Link, OfValue, Ref, RootIsBelow, Target, ids, is_below, target_seen}
 use Rattle.patr_canon.proofs.ReadBacks.{below_is, has_text, matched_false, matched_true, no_reader, no_root, no_block, no_node, other_text}
 use Rattle.patr_canon.proofs.SameNodes.{moved_below}
 use Rattle.patr_canon.proofs.read_back.read_canonical.Goals as goal
