@@ -2,17 +2,9 @@
 use Rattle.std.proofs.Common.{◌≡◌, ℕ, zero, suc, ◌-◌, ◌≤◌, Bool, true, false, List, [], ◌∷◌, ◌++◌, length, map, Err, Vec, Global, refl, sym, ap, ◌∙◌, arith, append_assoc, append-nil}
 use Rattle.std.proofs.lemmas.Bool.{true≢false}
 use Rattle.patr_model.specs.Parsing as parsing
-use Rattle.patr_model.specs.Parsing.{Parse, Got, Stops, ◌>>=◌, Reads, many}
-use Rattle.patr_model.specs.Productions.{Left, Item, SymbolText, RuleText, Clause, RuleClause, row, many_right, begins_outer, item, star_right, right_side, with_name, clause, clauses}
-use Rattle.patr_model.specs.Built.{stage}
-use Rattle.patr_text.specs.declared.fault.Fault.{Fault}
-use Rattle.patr_text.specs.declared.fault.Fault.TheVariants.{Memory, Refused}
-use Rattle.patr_text.specs.declared.symbols.Id.{Id}
-use Rattle.patr_grammar.specs.declared.lexeme.Lexeme.{Lexeme}
+use Rattle.patr_grammar.proofs.Names.{Clause, Fault, Gives, GivesAt, Got, Id, Item, Left, Lexeme, Memory, Parse, Reads, Refused, RuleClause, RuleText, Stops, SymbolText, ◌>>=◌, begins_outer, by_id, clause, clauses, item, item_seen, many, many_right, refusal_seen, right_side, right_view, row, rule_view, stage, star_right, with_name}
 use Rattle.patr_grammar.specs.declared.reader.Refusal.{Refusal}
 use Rattle.patr_grammar.specs.declared.grammar.RuleText as code_rule
-use Rattle.patr_grammar.specs.Reading.{item_seen}
-use Rattle.patr_grammar.specs.Views.{by_id, refusal_seen, Gives, GivesAt, right_view, rule_view}
 
 -- things that were read before
 abbrev pub onto : {T W S X : Type 0} → List X → Parse T W S (List X) → Parse T W S (List X)

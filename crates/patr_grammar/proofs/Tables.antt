@@ -1,11 +1,7 @@
 -- Tables of texts that grow.
 use Rattle.std.proofs.Common.{◌≡◌, ℕ, Bool, true, false, cond, List, [], ◌∷◌, ◌++◌, slice_get, Some, refl, sym, ap, ◌∙◌, subst, append_assoc, append-nil}
 use Rattle.patr_lists.proofs.Places.{get_left}
-use Rattle.patr_model.specs.Renaming.{Each}
-use Rattle.patr_model.specs.Tokens.{Token}
-use Rattle.patr_text.specs.Texts.{holds, with_text, Extends}
-use Rattle.patr_grammar.specs.declared.lexeme.Lexeme.{Lexeme}
-use Rattle.patr_grammar.specs.Views.{IsLexeme}
+use Rattle.patr_grammar.proofs.Names.{Each, Extends, IsLexeme, Lexeme, Token, holds, with_text}
 
 extends_by : (b : Bool) (texts : List (List ℕ)) (t : List ℕ) → Extends texts (cond b texts (texts ++ t ∷ []))
 extends_by true texts t = ([], sym (append-nil texts))
