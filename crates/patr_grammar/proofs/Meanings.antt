@@ -1,7 +1,6 @@
 -- From what lexemes stand for to what the bytes of a text stand for.
-use Rattle.std.proofs.Common.{◌≡◌, ℕ, List, [], ◌∷◌, map, codes, slice_get, slice_index_or, Option, None, Some, IfSome, IfNone, length, ◌<◌, Result, Ok, Err, Vec, Global, IfOk, IfErr, IsUtf8, IsTrue, nat_eq, refl, sym, ap, ◌∙◌, subst, arith}
-use Rattle.patr_grammar.proofs.Names.{Answers, AreRules, Each, Extends, Fault, Got, Id, IsLexeme, IsRefusedAt, IsRefusedFor, IsText, Lexeme, Memory, NoRules, Outcome, Place, Refused, SameOutcome, SameRefusal, Stands, StandsFor, Token, WordsAgree, after, by_id, by_text, clauses, first_place, first_texts, grammar, grammar_seen, lexical_rule_seen, nat_tests, outcome, refusal_seen, rule_seen, stage, start_place, template_seen, tokens_of}
-use Rattle.std.specs.Option.{ok_or}
+use Rattle.std.proofs.Common.{◌≡◌, ℕ, List, [], ◌∷◌, map, codes, slice_get, slice_index_or, Some, length, ◌<◌, Result, Ok, Err, Vec, Global, IfOk, IfErr, IsUtf8, IsTrue, nat_eq, refl, sym, ap, ◌∙◌, subst, arith}
+use Rattle.patr_grammar.proofs.Names.{Answers, AreRules, Each, Extends, Fault, Id, IsLexeme, IsRefusedAt, IsRefusedFor, IsText, Lexeme, Memory, NoRules, Outcome, Place, Refused, SameOutcome, SameRefusal, Stands, StandsFor, Token, WordsAgree, after, by_id, by_text, first_place, first_texts, grammar, grammar_seen, lexical_rule_seen, nat_tests, outcome, refusal_seen, rule_seen, stage, start_place, template_seen, tokens_of}
 use Rattle.patr_model.specs.Bytes.{same_text}
 use Rattle.patr_model.specs.Table.{IsTable}
 use Rattle.patr_model.specs.Parsing as parsing

@@ -1,6 +1,6 @@
 -- What productions of paths and equations give.
 use Rattle.std.proofs.Common.{◌≡◌, ℕ, zero, suc, ◌-◌, ◌≤◌, Bool, true, false, cond, not, ◌&&◌, ◌||◌, List, [], ◌∷◌, ◌++◌, length, map, nat_eq, Err, Vec, Global, refl, sym, ap, ◌∙◌, arith, append-nil}
-use Rattle.patr_grammar.proofs.Names.{AnyAttribute, Equates, EquationText, Expected, Fault, FeatureText, Gives, Got, Head, Id, Item, LaterForm, Less, Lexeme, Memory, OpenBrace, Parse, PathTooLong, Reads, Refused, Single, Stops, Word, ◌>>=◌, begins, begins_feature, begins_ruleitem, braced, by_id, element_seen, elements, equation, equation_seen, equations_view, feature, feature_seen, features_view, is_among, is_kind, is_symbol, list_any, nat_tests, one, path, refusal_seen, row, rule_equation, ruleitems, single_feature, stage, star, symbols_of, word_list}
+use Rattle.patr_grammar.proofs.Names.{AnyAttribute, Equates, EquationText, Expected, Fault, FeatureText, Gives, Got, Head, Id, Item, LaterForm, Less, Lexeme, Memory, OpenBrace, Parse, PathTooLong, Reads, Refused, Single, Stops, Word, ◌>>=◌, begins, begins_feature, begins_ruleitem, braced, by_id, element_seen, elements, equation, equation_seen, equations_view, feature, feature_seen, features_view, is_among, is_kind, is_symbol, list_any, nat_tests, one, path, refusal_seen, row, rule_equation, ruleitems, single_feature, stage, star, word_list}
 use Rattle.patr_model.specs.declared.notation.What.TheVariants as what
 use Rattle.patr_grammar.specs.declared.reader.Refusal.{Refusal}
 use Rattle.patr_grammar.specs.declared.grammar.Item as code_item
