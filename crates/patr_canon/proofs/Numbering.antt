@@ -1,6 +1,8 @@
 -- The nodes that have numbers.
 use Rattle.std.proofs.Common.{◌≡◌, ℕ, zero, suc, ◌+◌, ◌<◌, ◌≤◌, Bool, true, false, cond, not, ◌||◌, nat_eq, nat_lt, ltb-true, ltb-false, lt-ltb, true≢false, List, [], ◌∷◌, ◌++◌, append-nil, flat_map, length, take, drop, get_or, Option, Some, None, option_map, is_some, slice_get, refl, sym, ap, ◌∙◌, subst, arith}
-use Rattle.patr_canon.proofs.Names.{Again, AllByRecursion, AreOnce, Begun, Branch, Branches, Closes, Done, Event, EventsAreNumbered, EventsTell, IsDone, IsStructure, IsValue, Leaf, Look, OfAgain, OfArc, OfAtom, Opens, Outline, Structure, Value, again_of, append_assoc, canonical, drop_more, event_seen, event_text, events, events_of, events_seen, from_one, kept, list_any, map-append, met_again, number_by, number_in, opened, opened_of, outline, place_in, place_longer, place_there, position, position_or_len, renumbered, renumbered_all, repeats, some_inj, take-append-drop, take_more, tree_of, visits}
+use Rattle.std.proofs.lemmas.Grind.{flat_map-append}
+use Rattle.patr_lists.proofs.Alls.{all_append}
+use Rattle.patr_canon.proofs.Names.{Again, AllByRecursion, AreOnce, Begun, Branch, Branches, Closes, Done, Event, EventIsNumbered, EventsAreNumbered, EventsTell, IsDone, IsStructure, IsValue, Leaf, Look, OfAgain, OfArc, OfAtom, Opens, Outline, Structure, Value, again_of, canonical, drop_more, event_seen, event_text, events, events_of, events_seen, from_one, kept, list_any, map-append, met_again, number_by, number_in, opened, opened_of, outline, place_in, place_longer, place_there, position, position_or_len, renumbered, renumbered_all, repeats, some_inj, take-append-drop, take_more, tree_of, visits}
 use Rattle.std.specs.HashSet.{HashSet, contains}
 use Rattle.patr_model.proofs.Keyed as keyed
 use Rattle.patr_model.proofs.Numbered.{tree_numbers}
@@ -184,10 +186,6 @@ from_one_some : (o : Option ℕ) → 0 < from_one o → is_some o ≡ true
 from_one_some None h = absurd (omega (arith, h))
 from_one_some (Some i) h = refl
 
-numbered_append : (ns : List ℕ) (es fs : List Event) → EventsAreNumbered ns es → EventsAreNumbered ns fs → EventsAreNumbered ns (es ++ fs)
-numbered_append ns [] fs h k = k
-numbered_append ns (e ∷ es) fs h k = (h.0, numbered_append ns es fs h.1 k)
-
 mutual
   tree_numbered : (ns : List ℕ) (t : Outline ℕ) → AreNumbers (number_by ns) t → EventsAreNumbered ns (events t)
   tree_numbered ns (Leaf c) h = (tt, tt)
@@ -196,7 +194,7 @@ mutual
 
   branches_numbered : (ns : List ℕ) (bs : Branches ℕ) (first : Bool) → AreNumbersOf (number_by ns) bs → EventsAreNumbered ns (events_of first bs)
   branches_numbered ns Done first h = (tt, tt)
-  branches_numbered ns (Branch a x bs) first h = (tt, numbered_append ns (events x) (events_of false bs) (tree_numbered ns x h.0) (branches_numbered ns bs false h.1))
+  branches_numbered ns (Branch a x bs) first h = (tt, all_append (EventIsNumbered ns) (events x) (events_of false bs) (tree_numbered ns x h.0) (branches_numbered ns bs false h.1))
 
 -- numbers that a tree has stand for themselves in the renumbered one
 mutual
@@ -233,16 +231,12 @@ all_at P [] i d h k = absurd (omega (arith, h))
 all_at P (e ∷ es) zero d h k = k.0
 all_at P (e ∷ es) (suc i) d h k = all_at P es i d (omega (arith, h)) k.1
 
-flat_append : (f : Event → List ℕ) (es fs : List Event) → flat_map f (es ++ fs) ≡ flat_map f es ++ flat_map f fs
-flat_append f [] fs = refl
-flat_append f (e ∷ es) fs = ap (λ t. f e ++ t) (flat_append f es fs) ∙ sym (append_assoc (f e) (flat_map f es) (flat_map f fs))
-
 pub text_more : (f : Event → List ℕ) (es : List its.Event) (i : ℕ) (d : its.Event) (text : List ℕ) → i < length es → text ≡ flat_map f (events_seen (take i es))
     → text ++ f (event_seen (get_or es i d)) ≡ flat_map f (events_seen (take (i + 1) es))
 text_more f es i d text h e =
     ap (λ t. t ++ f (event_seen (get_or es i d))) e
     ∙ (ap (λ t. flat_map f (events_seen (take i es)) ++ t) (sym (append-nil (f (event_seen (get_or es i d)))))
-    ∙ (sym (flat_append f (events_seen (take i es)) (event_seen (get_or es i d) ∷ [])) ∙ ap (flat_map f) (sym (seen_more es i d h))))
+    ∙ (sym (flat_map-append f (events_seen (take i es)) (event_seen (get_or es i d) ∷ [])) ∙ ap (flat_map f) (sym (seen_more es i d h))))
 
 -- ---- what was met, where it is a value's events
 

@@ -13,7 +13,7 @@ use Rattle.patr_canon.specs.declared.reader.Reader.{Reader}
 use Rattle.patr_canon.specs.declared.reader.Target.TheVariants as target
 use Rattle.patr_canon.proofs.Fitting.{outline_fits}
 use Rattle.patr_canon.proofs.Moved.{moved_length}
-use Rattle.patr_canon.proofs.SameNodes.{moved_all, of_block, one_way, root_below, so_many}
+use Rattle.patr_canon.proofs.SameNodes.{moved_all, of_block, one_way, ref_below, so_many}
 use Rattle.patr_canon.proofs.Spelled.{nodes_own}
 
 -- ---- what a block shows alone
@@ -44,7 +44,7 @@ has_text table order text block t is own symbol held prints = record {
   has = subst (λ x. HasText (table_look table order) (structure_of block) x text) (sym (root_is block t)) (record { structure = block_shown (length table) block is own; held = more_places block (target_seen t) held; prints = prints });
   held = root_held block t held;
   own = own;
-  root_own = root_below (length table) t symbol;
+  root_own = ref_below (length table) t symbol;
 }
 
 -- ---- a text that some value has
@@ -130,11 +130,3 @@ arena_value block (target.Node k) = ap Node (zero-add k)
 pub match_text : (r : Bool) (x y z : List ℕ) → r ≡ bytes_eq x y → z ≡ x → MatchBool r (z ≡ y) (z ≡ y → ⊥)
 match_text true x y z e h = h ∙ (bytes_eq-Decides x y).0 (sym e)
 match_text false x y z e h = λ p. true≢false (sym ((bytes_eq-Decides x y).1 (sym h ∙ p)) ∙ sym e)
-
-pub matched_true : (r : Bool) (A B : Type 0) → MatchBool r A B → r ≡ true → A
-matched_true true A B m e = m
-matched_true false A B m e = absurd (true≢false (sym e))
-
-pub matched_false : (r : Bool) (A B : Type 0) → MatchBool r A B → r ≡ false → B
-matched_false true A B m e = absurd (true≢false e)
-matched_false false A B m e = m

@@ -1,5 +1,6 @@
 -- Nodes whose arcs stand in another order are the same structure.
 use Rattle.std.proofs.Common.{◌≡◌, ℕ, zero, suc, ◌+◌, ◌<◌, Bool, true, false, cond, nat_lt, ltb-true, lt-ltb, List, [], ◌∷◌, map, length, slice_get, Option, Some, None, Vec, refl, sym, ap, ◌∙◌, subst, arith}
+use Rattle.std.proofs.lemmas.Option.{slice_get-get_or}
 use Rattle.patr_canon.proofs.Names.{All-from_recursion, All-permutation, AllByRecursion, Arcs, ArcsAreBelow, AreMoved, Atom, Feature, GiveOneText, Global, HasDistinct, IsBelow, IsLookOf, IsRefBelow, IsStructure, IsValue, Link, Look, Node, NodeIsBelow, NodesAreBelow, OfSymbols, OfValue, Structure, Target, Value, arc, arcs_from, arcs_of, below_more_places, feature_seen, length-map, links_seen, nodes_seen, nothing, recursion_from_All, ref_seen, some_inj, table_look, target_seen, text_or, total, zeros}
 use Rattle.patr_model.specs.Subsumption.{MapsInto, image}
 use Rattle.patr_canon.specs.declared.reader.Target.TheVariants as target
@@ -56,7 +57,7 @@ so_many nodes block h = let a : length (nodes_seen nodes) ≡ length nodes = sim
 
 -- ---- symbols
 
-ref_below : (n : ℕ) (t : Target) → OfValue (λ c. c < n) (target_seen t) → IsRefBelow n (ref_seen t)
+pub ref_below : (n : ℕ) (t : Target) → OfValue (λ c. c < n) (target_seen t) → IsRefBelow n (ref_seen t)
 ref_below n (target.Atom c) h = h
 ref_below n (target.Node k) h = tt
 
@@ -75,20 +76,12 @@ moved_below n (v ∷ nodes) (fs ∷ block) h k = (
   moved_below n nodes block h.1 k.1,
 )
 
-pub root_below : (n : ℕ) (t : Target) → OfValue (λ c. c < n) (target_seen t) → IsRefBelow n (ref_seen t)
-root_below n t h = ref_below n t h
-
 -- a Look of the table gives the table's symbols the table's texts
 one_text : (table : List (List ℕ)) (order : List ℕ) (l : Look) → IsLookOf table l → (c : ℕ) → c < length table → GiveOneText l (table_look table order) c
 one_text table order l is c lt = go (slice_get table c) refl
   where
-    missing : (ts : List (List ℕ)) (i : ℕ) → i < length ts → slice_get ts i ≡ None → ⊥
-    missing [] i h e = omega (arith, h)
-    missing (t ∷ ts) zero h e = cc
-    missing (t ∷ ts) (suc i) h e = missing ts i (omega (arith, h)) e
-
     go : (o : Option (List ℕ)) → slice_get table c ≡ o → l.text c ≡ text_or (slice_get table c) (zeros (suc (total table + c)))
-    go None e = absurd (missing table c lt e)
+    go None e = let bad = sym e ∙ slice_get-get_or table c [] lt in cc
     go (Some t) e = is.texts c t e ∙ sym (ap (λ o. text_or o (zeros (suc (total table + c)))) e)
 
 module _ (table : List (List ℕ)) (order : List ℕ) (l : Look) (is : IsLookOf table l) where
