@@ -61,10 +61,7 @@ again_added es i d set new n h e done updates = subst (IsDone new) (sym (again_t
 -- ---- the nodes that have numbers
 
 kept_more : (these ns : List ℕ) (n : ℕ) → kept these (ns ++ n ∷ []) ≡ kept these ns ++ cond (is_some (place_in these n)) (n ∷ []) []
-kept_more these [] n = go (is_some (place_in these n))
-  where
-    go : (b : Bool) → cond b (n ∷ []) [] ≡ cond b (n ∷ []) []
-    go b = refl
+kept_more these [] n = refl
 kept_more these (m ∷ ns) n = go (is_some (place_in these m)) (kept_more these ns n)
   where
     go : (b : Bool) → kept these (ns ++ n ∷ []) ≡ kept these ns ++ cond (is_some (place_in these n)) (n ∷ []) []
