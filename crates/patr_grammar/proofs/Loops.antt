@@ -48,31 +48,27 @@ unfolding many_right
 items_end front zero s h = ap (λ (xs : Items). Got xs s) (append-nil front)
 items_end front (suc n) s h = rw h (ap (λ (xs : Items). Got xs s) (append-nil front))
 
-not_empty : (ts : List Lexeme) → begins_outer by_id ts ≡ true → 1 ≤ length ts
-not_empty [] h = absurd cc
-not_empty (t ∷ ts) h = omega arith
+pub not_empty_by : (starts : List Lexeme → Bool) → starts [] ≡ false → (ts : List Lexeme) → starts ts ≡ true → 1 ≤ length ts
+not_empty_by starts none [] h = absurd (true≢false (sym h ∙ none))
+not_empty_by starts none (t ∷ ts) h = omega arith
 
 pub right_stops : (f : Fault Refusal) (front : Items) (n : ℕ) (s state : Left Lexeme) (rest ts : List Lexeme) → begins_outer by_id s.tokens ≡ true → length s.tokens ≤ n → so_far front n s ≡ all_items ts
     → GivesAt item_seen (Err f) state rest (plain_item s) → Gives right_view (Err f) rest (right_side by_id stage ts)
 right_stops Memory front n s state rest ts h le e g = tt
 right_stops (Refused r) front n s state rest ts h le e g =
-    let k = one_more n (omega (arith, not_empty s.tokens h)) in
+    let k = one_more n (omega (arith, not_empty_by (begins_outer by_id) refl s.tokens h)) in
     ap (λ (p : ItemParse). p >>= λ xs s. Got (row xs) s.tokens) (sym e ∙ ap (λ (m : ℕ). so_far front m s) k ∙ items_stop front (n - 1) s (refusal_seen r) rest h g)
 
 pub right_more : (front : Items) (n : ℕ) (s t : Left Lexeme) (x : Item (SymbolText Id)) (ts : List Lexeme) → begins_outer by_id s.tokens ≡ true → length s.tokens ≤ n → so_far front n s ≡ all_items ts → plain_item s ≡ Got x t
     → so_far (front ++ x ∷ []) (n - 1) t ≡ all_items ts
 right_more front n s t x ts h le e g =
-    let k = one_more n (omega (arith, not_empty s.tokens h)) in
+    let k = one_more n (omega (arith, not_empty_by (begins_outer by_id) refl s.tokens h)) in
     sym (more_items front (n - 1) s t x h g) ∙ ap (λ (m : ℕ). so_far front m s) (sym k) ∙ e
 
 pub right_ends : (front : Items) (n : ℕ) (s : Left Lexeme) (ts : List Lexeme) → begins_outer by_id s.tokens ≡ false → so_far front n s ≡ all_items ts → right_side by_id stage ts ≡ Got (row front) s.tokens
 right_ends front n s ts h e = ap (λ (p : ItemParse). p >>= λ xs s. Got (row xs) s.tokens) (sym e ∙ items_end front n s h)
 
 -- ---- things as long as one may begin
-
-pub not_empty_by : (starts : List Lexeme → Bool) → starts [] ≡ false → (ts : List Lexeme) → starts ts ≡ true → 1 ≤ length ts
-not_empty_by starts none [] h = absurd (true≢false (sym h ∙ none))
-not_empty_by starts none (t ∷ ts) h = omega arith
 
 module _ {X : Type 0} (starts : List Lexeme → Bool) (read : Reads Lexeme Id X) where
   abbrev pub many_from : List X → ℕ → List Lexeme → Parse Lexeme Id (List Lexeme) (List X)
