@@ -1,6 +1,7 @@
 -- Arcs found by their attribute.
 use Rattle.std.proofs.Common.{◌≡◌, ℕ, zero, suc, ◌+◌, ◌<◌, ◌≤◌, Bool, true, false, cond, nat_eq, eqb-true, eq-eqb, List, [], ◌∷◌, length, map, get_or, Option, Some, None, Result, Ok, Err, MatchResult, refl, sym, ap, ◌∙◌, subst, arith}
-use Rattle.std.proofs.lemmas.List.{get_or_default, length-map}
+use Rattle.std.proofs.lemmas.List.{get_or-map, get_or_default, length-map}
+use Rattle.std.proofs.lemmas.Option.{none-some}
 use Rattle.std.proofs.lemmas.Cmp.{ranked}
 use Rattle.std.proofs.lemmas.List.Sorted.{IsNonDecreasingBy-from_default}
 use Rattle.std.proofs.lemmas.Bool.Decides.{nat_tests}
@@ -28,10 +29,7 @@ along_features v b (f ∷ fs) a = go (nat_eq f.attribute.0 a) (along_features v 
     go false rest = rest
 
 pub feature_held : (v : Shown) (b : ℕ) (fs : List Feature) (a : ℕ) (r : Ref) → AllHeld v b fs → feature_to fs a ≡ Some r → RefIsHeld v b r
-feature_held v b [] a r h e = absurd (none_some r e)
-  where
-    none_some : (r : Ref) → None ≡ Some r → ⊥
-    none_some r e = cc
+feature_held v b [] a r h e = absurd (none-some r e)
 feature_held v b (f ∷ fs) a r h e = go (nat_eq f.attribute.0 a) e (feature_held v b fs a r h.1)
   where
     inside : (s : Ref) → Some s ≡ Some r → s ≡ r
@@ -49,9 +47,7 @@ pub nowhere : Feature
 nowhere = record { attribute = record { 0 = 0 }; to = ref.Atom (record { 0 = 0 }) }
 
 attribute_at : (fs : List Feature) (k : ℕ) → k < length fs → get_or (attributes fs) k 0 ≡ (get_or fs k nowhere).attribute.0
-attribute_at [] k h = absurd (omega (arith, h))
-attribute_at (f ∷ fs) zero h = refl
-attribute_at (f ∷ fs) (suc k) h = attribute_at fs k (omega (arith, h))
+attribute_at fs k h = get_or-map (λ (f : Feature). f.attribute.0) fs k nowhere 0 h
 
 -- each later attribute is above each earlier one
 rises_on : (xs : List ℕ) → IsStrictlyIncreasing xs → (i j : ℕ) → i < j → j < length xs → get_or xs i 0 < get_or xs j 0

@@ -1,6 +1,6 @@
 -- A list of arcs cut at the nodes' ends.
 use Rattle.std.proofs.Common.{◌≡◌, ◌⊎◌, inl, inr, ℕ, zero, suc, ◌+◌, ◌-◌, ◌<◌, ◌≤◌, ◌^◌, List, [], ◌∷◌, ◌++◌, length, length-append, length-drop, take, drop, get_or, refl, sym, ap, ◌∙◌, subst, arith}
-use Rattle.std.proofs.lemmas.List.{drop_at, drop-append-le, get_or_append_left, get_or_at, get_or_read, take-append-le, take_all}
+use Rattle.std.proofs.lemmas.List.{drop_at, drop-append-le, get_or_append_left, get_or_at, get_or_past, get_or_read, take-append-le, take_all}
 use Rattle.std.specs.List.{slice_range}
 use Rattle.std.specs.List.Sorted.{IsStrictlyIncreasing}
 use Rattle.patr_arena.specs.declared.value.Feature.{Feature}
@@ -55,18 +55,13 @@ block_push nodes arcs b rising below = record {
     place zero (suc m) = inl (omega arith)
     place (suc n) (suc m) = elim (place n m) as (λ _. (suc n < suc m) ⊎ ((suc n ≡ suc m) ⊎ (suc m < suc n))) [ inl h ↦ inl (omega (arith, h)) | inr (inl h) ↦ inr (inl (ap suc h)) | inr (inr h) ↦ inr (inr (omega (arith, h))) ]
 
-    beyond : (xs : List (List Feature)) (n : ℕ) → length xs ≤ n → get_or xs n [] ≡ []
-    beyond [] n h = refl
-    beyond (x ∷ xs) zero h = absurd (omega (arith, h))
-    beyond (x ∷ xs) (suc n) h = beyond xs n (omega (arith, h))
-
     Fits : ℕ → List Feature → Type 0
     Fits n fs = IsStrictlyIncreasing (attributes fs) × AllBelow n fs
 
     go : (n : ℕ) → (n < length nodes) ⊎ ((n ≡ length nodes) ⊎ (length nodes < n)) → Fits n (get_or (nodes ++ arcs ∷ []) n [])
     go n (inl h) = subst (Fits n) (sym (get_or_append_left nodes (arcs ∷ []) [] n h)) (b.rising n, b.below n)
     go n (inr (inl h)) = subst (Fits n) (sym (get_or_at nodes arcs [] [] n (sym h))) (rising, subst (λ k. AllBelow k arcs) (sym h) below)
-    go n (inr (inr h)) = subst (Fits n) (sym (beyond (nodes ++ arcs ∷ []) n (let all = length-append nodes (arcs ∷ []) in omega (arith, all, h)))) ((λ k m. absurd (omega (arith, m))), tt)
+    go n (inr (inr h)) = subst (Fits n) (sym (get_or_past (nodes ++ arcs ∷ []) n [] (let all = length-append nodes (arcs ∷ []) in omega (arith, all, h)))) ((λ k m. absurd (omega (arith, m))), tt)
 
 -- a block's lists with one node more
 pub cut_more : (fs more : List Feature) (ends : List ℕ) → IsCut fs ends → length ends + 1 < 2 ^ 32 → IsStrictlyIncreasing (attributes more) → AllBelow (length (cut fs 0 ends)) more

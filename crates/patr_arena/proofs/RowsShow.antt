@@ -1,7 +1,8 @@
 -- What a row of blocks shows behind what stands before it.
-use Rattle.std.proofs.Common.{◌≡◌, ◌⊎◌, inl, inr, ℕ, zero, suc, ◌+◌, ◌<◌, List, [], ◌∷◌, ◌++◌, length, length-append, map, take, get_or, refl, sym, ap, ◌∙◌, subst, arith}
+use Rattle.std.proofs.Common.{◌≡◌, ◌⊎◌, inl, inr, ℕ, ◌+◌, ◌<◌, List, [], ◌∷◌, ◌++◌, length, length-append, map, take, get_or, refl, sym, ap, ◌∙◌, subst, arith}
 use Rattle.std.proofs.lemmas.List.{get_or_append_left, get_or-append-add, length-map, take-map}
 use Rattle.std.proofs.lemmas.List.Sums.{fold_push, sum-map, sum_by-append}
+use Rattle.std.proofs.Math.ListN.{get_or-map}
 use Rattle.std.specs.List.{sum, sum_by}
 use Rattle.patr_model.specs.Structure.{Node, arcs_of}
 use Rattle.patr_arena.specs.declared.value.Feature.{Feature}
@@ -10,11 +11,6 @@ use Rattle.patr_arena.specs.Blocks.{AreBlocks, IsBlock, OldIsHeld, nothing, with
 use Rattle.patr_arena.specs.Rows.{HasNode, Row, appended, blocks_of, node_in, nodes_of, start}
 use Rattle.patr_arena.proofs.Showing.{blocks_extend, blocks_shown, blocks_sizes, held_below, node_of_block, old_of_all, same_arcs, same_node, same_number, still_all_held}
 use Rattle.patr_arena.proofs.Sizes.{held_front, place_above}
-
-get_sizes : (blocks : List (List (List Feature))) (k : ℕ) → get_or (map length blocks) k 0 ≡ length (get_or blocks k [])
-get_sizes [] k = refl
-get_sizes (b ∷ blocks) zero = refl
-get_sizes (b ∷ blocks) (suc k) = get_sizes blocks k
 
 -- one block more
 pub blocks_push : (v : Shown) (blocks : List (List (List Feature))) (block : List (List Feature)) → with_blocks v (blocks ++ block ∷ []) ≡ with_block (with_blocks v blocks) block
@@ -46,7 +42,7 @@ module _ (v : Shown) (s : IsShown v) (row : Row) (first_block : row.first_block 
   sizes = blocks_sizes v row.blocks
 
   size_of : (b k : ℕ) → b ≡ length v.sizes + k → get_or (with_blocks v row.blocks).sizes b 0 ≡ length (get_or row.blocks k [])
-  size_of b k e = ap (λ s. get_or s b 0) sizes ∙ (ap (λ n. get_or (v.sizes ++ map length row.blocks) n 0) e ∙ (get_or-append-add v.sizes (map length row.blocks) k 0 ∙ get_sizes row.blocks k))
+  size_of b k e = ap (λ s. get_or s b 0) sizes ∙ (ap (λ n. get_or (v.sizes ++ map length row.blocks) n 0) e ∙ (get_or-append-add v.sizes (map length row.blocks) k 0 ∙ get_or-map (length {A = List Feature}) row.blocks k []))
 
   -- a node behind the base is a node of the row
   row_has : (b k o : ℕ) → b ≡ length v.sizes + k → IsHeld (with_blocks v row.blocks) b o → HasNode row k o

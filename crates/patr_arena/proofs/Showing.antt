@@ -1,6 +1,8 @@
 -- What blocks show, one behind another.
-use Rattle.std.proofs.Common.{◌≡◌, ◌⊎◌, inl, inr, ℕ, zero, suc, ◌+◌, ◌<◌, ◌≤◌, Bool, true, false, cond, nat_eq, List, [], ◌∷◌, ◌++◌, length, length-append, map, take, get_or, Some, None, refl, sym, ap, ◌∙◌, subst, arith}
+use Rattle.std.proofs.Common.{◌≡◌, ◌⊎◌, inl, inr, ℕ, zero, suc, ◌+◌, ◌<◌, ◌≤◌, Bool, true, false, cond, nat_eq, List, [], ◌∷◌, ◌++◌, length, length-append, map, take, get_or, Some, refl, sym, ap, ◌∙◌, subst, arith}
 use Rattle.std.proofs.lemmas.List.{append_assoc, append-nil, length-map, get_or_append_left, get_or-append-add, take_all, take-append-le}
+use Rattle.std.proofs.lemmas.Option.{none-some}
+use Rattle.std.proofs.Math.ListN.{get_or-map}
 use Rattle.std.specs.List.{sum}
 use Rattle.std.specs.List.Sorted.{IsStrictlyIncreasing}
 use Rattle.patr_model.specs.Structure.{Value, Node, along, IsBelow}
@@ -14,11 +16,6 @@ use Rattle.patr_arena.proofs.Sizes.{held_front, place_below, sum_push}
 
 pub held_below : (v : Shown) → IsShown v → (b o : ℕ) → IsHeld v b o → number_of v b o < length v.structure
 held_below v s b o h = let whole = s.whole in let place = place_below v.sizes b o h in omega (arith, whole, place)
-
-get_map : {A B : Type 0} (f : List A → List B) (xs : List (List A)) (n : ℕ) → f [] ≡ [] → get_or (map f xs) n [] ≡ f (get_or xs n [])
-get_map f [] n e = sym e
-get_map f (x ∷ xs) zero e = refl
-get_map f (x ∷ xs) (suc n) e = get_map f xs n e
 
 -- what was shown is shown still
 module _ (v : Shown) (w : Shown) (e : Extends v w) where
@@ -71,7 +68,7 @@ module _ (v : Shown) (s : IsShown v) (nodes : List (List Feature)) (block : IsBl
   new_number o = ap (λ k. k + o) (ap sum (take_all (length v.sizes) v.sizes (omega arith)) ∙ s.whole)
 
   pub new_node : (n : ℕ) → get_or (with_block v nodes).structure (length v.structure + n) [] ≡ arcs_from v (length v.sizes) (get_or nodes n [])
-  new_node n = get_or-append-add v.structure (map (arcs_from v (length v.sizes)) nodes) n [] ∙ get_map (arcs_from v (length v.sizes)) nodes n refl
+  new_node n = get_or-append-add v.structure (map (arcs_from v (length v.sizes)) nodes) n [] ∙ get_or-map (arcs_from v (length v.sizes)) nodes n []
 
   ref_below : (n : ℕ) (r : Ref) → LeadsBelow n r → OldRefIsHeld v r → IsBelow (length v.structure + n) (ref_of v (length v.sizes) r)
   ref_below n (ref.Atom c) b h = tt
@@ -79,10 +76,7 @@ module _ (v : Shown) (s : IsShown v) (nodes : List (List Feature)) (block : IsBl
   ref_below n (ref.New k) b h = let here = new_number k in omega (arith, here, b)
 
   arcs_below : (n : ℕ) (fs : List Feature) → AllBelow n fs → AllOldHeld v fs → (a : ℕ) (x : Value) → along (arcs_from v (length v.sizes) fs) a ≡ Some x → IsBelow (length v.structure + n) x
-  arcs_below n [] b h a x e = absurd (some_none x e)
-    where
-      some_none : (x : Value) → None ≡ Some x → ⊥
-      some_none x e = cc
+  arcs_below n [] b h a x e = absurd (none-some x e)
   arcs_below n (f ∷ fs) b h a x e = go (nat_eq f.attribute.0 a) e (arcs_below n fs b.1 h.1 a x)
     where
       inside : (y : Value) → Some y ≡ Some x → y ≡ x

@@ -1,11 +1,7 @@
 -- Numbers of a canonical text are at most as many as its bytes.
 use Rattle.std.proofs.Common.{◌≡◌, ℕ, suc, ◌<◌, ◌≤◌, ◌^◌, Bool, true, false, cond, List, [], ◌∷◌, ◌++◌, length, length-append, Option, Some, None, is_some, refl, arith}
-use Rattle.std.specs.List.{AllByRecursion}
-use Rattle.patr_model.specs.Stack.{Event, events, events_of}
-use Rattle.patr_model.specs.Structure.{Structure, Value}
-use Rattle.patr_model.specs.Text.{Look, Outline, Branches, Leaf, Again, Begun, Done, Branch, branches_text, canonical, from_one, kept, number_in, number_mark, outline, outline_text, place_in, printed, renumbered, renumbered_all, repeats, spelled, spelled_all, tree_of, visits, visits_of}
-use Rattle.patr_model.proofs.Places.{place_there}
-use Rattle.patr_canon.specs.Items.{EventFits}
+use Rattle.patr_lists.proofs.Alls.{all_append}
+use Rattle.patr_canon.proofs.Names.{Again, AllByRecursion, Begun, Branch, Branches, Done, EventFits, Leaf, Look, Outline, Structure, Value, branches_text, canonical, events, events_of, from_one, kept, number_in, number_mark, outline, outline_text, place_in, place_there, printed, renumbered, renumbered_all, repeats, spelled, spelled_all, tree_of, visits, visits_of}
 
 kept_length : (these xs : List ℕ) → length (kept these xs) ≤ length xs
 kept_length these [] = omega arith
@@ -43,10 +39,6 @@ module _ (f : ℕ → ℕ) (g : ℕ → List ℕ) where
         let u = branches_text (32 ∷ []) (spelled_all g (renumbered_all f bs)) in
         omega (arith, here, rest, length-append (visits x) (visits_of bs), length-append separator (printed (g a) ++ 58 ∷ 32 ∷ (t ++ u)), length-append (printed (g a)) (58 ∷ 32 ∷ (t ++ u)), length-append t u)
 
-all_append : (xs ys : List Event) → AllByRecursion EventFits xs → AllByRecursion EventFits ys → AllByRecursion EventFits (xs ++ ys)
-all_append [] ys p q = q
-all_append (x ∷ xs) ys p q = (p.0, all_append xs ys p.1 q)
-
 module _ (f : ℕ → ℕ) (small : (i : ℕ) → f i < 2 ^ 32) where
   mutual
     events_fit : (t : Outline ℕ) → AllByRecursion EventFits (events (renumbered f t))
@@ -56,7 +48,7 @@ module _ (f : ℕ → ℕ) (small : (i : ℕ) → f i < 2 ^ 32) where
 
     events_of_fit : (bs : Branches ℕ) (first : Bool) → AllByRecursion EventFits (events_of first (renumbered_all f bs))
     events_of_fit Done first = (tt, tt)
-    events_of_fit (Branch a x bs) first = (tt, all_append (events (renumbered f x)) (events_of false (renumbered_all f bs)) (events_fit x) (events_of_fit bs false))
+    events_of_fit (Branch a x bs) first = (tt, all_append EventFits (events (renumbered f x)) (events_of false (renumbered_all f bs)) (events_fit x) (events_of_fit bs false))
 
 pub outline_fits : (l : Look) (S : Structure) (v : Value) → length (canonical l S v) < 2 ^ 32 → AllByRecursion EventFits (events (outline l S v))
 outline_fits l S v h =

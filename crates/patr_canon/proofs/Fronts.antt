@@ -1,15 +1,10 @@
 -- Fronts of texts: where they end, and what is read of them.
 use Rattle.std.proofs.Common.{◌≡◌, ◌≢◌, ℕ, zero, suc, ◌+◌, ◌*◌, ◌-◌, ◌<◌, ◌≤◌, Bool, true, false, cond, not, ◌&&◌, ◌||◌, nat_eq, nat_lt, eqb-true, ltb-true, lt-ltb, true≢false, List, [], ◌∷◌, ◌++◌, length, take, drop, get_or, append_assoc, append-nil, Option, Some, None, option_map, option_copied, refl, sym, ap, ◌∙◌, subst, arith}
 use Rattle.std.specs.Option.{MatchOption}
-use Rattle.std.specs.List.{prefix_len}
-use Rattle.std.specs.Str.{IsUtf8, IsCharBoundary}
-use Rattle.std.proofs.lemmas.List.{drop_more}
-use Rattle.std.proofs.lemmas.List.Sums.{prefix_len-le-length, prefix_len_passes, prefix_len_stops}
+use Rattle.patr_canon.proofs.Names.{Front, IsCharBoundary, IsUtf8, bare_front, bare_step, changed, digits_front, digits_step, drop_more, is_digit, is_end, prefix_len, prefix_len-le-length, prefix_len_passes, prefix_len_stops, quoted_front, quoted_step, skip}
 use Rattle.std.proofs.lemmas.Str.{IsCharBoundary-before_ascii, IsCharBoundary-after_ascii, IsCharBoundary-end, IsCharBoundary-start, inside_one, encode_ascii, length-encode, len_utf8_bounds}
 use lib.Utf8.{encode}
 use denote.Ref.{Bor}
-use Rattle.patr_model.specs.Bytes.{is_digit}
-use Rattle.patr_model.specs.Reading.{Front, changed, skip, is_end, bare_step, bare_front, quoted_step, quoted_front, digits_step, digits_front}
 use Rattle.patr_model.proofs.Spelling.{skip_back}
 
 -- ---- one character at the front
@@ -150,24 +145,24 @@ digits_grow (b ∷ bs) k = go (is_digit b) (digits_grow bs (k * 10 + (b - 48)))
 
 -- ---- texts between quotes
 
+unchanged : (o : Option (Front (List ℕ))) → o ≡ option_map (changed (λ t. t)) o
+unchanged None = refl
+unchanged (Some f) = refl
+
+twice : (xs ys : List ℕ) (o : Option (Front (List ℕ))) → option_map (changed (λ t. xs ++ t)) (option_map (changed (λ t. ys ++ t)) o) ≡ option_map (changed (λ t. (xs ++ ys) ++ t)) o
+twice xs ys None = refl
+twice xs ys (Some f) = ap (λ t. Some (record { it = t; rest = f.rest })) (sym (append_assoc xs ys f.it))
+
 -- bytes that are neither a quote nor a backslash stand for themselves
 plain_front : (bs r : List ℕ) → ((k : ℕ) → k < length bs → (get_or bs k 0 ≢ 34) × (get_or bs k 0 ≢ 92)) → quoted_front (bs ++ r) false ≡ option_map (changed (λ t. bs ++ t)) (quoted_front r false)
-plain_front [] r h = same (quoted_front r false)
-  where
-    same : (o : Option (Front (List ℕ))) → o ≡ option_map (changed (λ t. t)) o
-    same None = refl
-    same (Some f) = refl
+plain_front [] r h = unchanged (quoted_front r false)
 plain_front (b ∷ bs) r h = go (nat_eq b 34) refl (nat_eq b 92) refl (plain_front bs r (λ k l. h (suc k) (omega (arith, l))))
   where
-    twice : (o : Option (Front (List ℕ))) → option_map (changed (λ t. b ∷ t)) (option_map (changed (λ t. bs ++ t)) o) ≡ option_map (changed (λ t. b ∷ (bs ++ t))) o
-    twice None = refl
-    twice (Some f) = refl
-
     go : (p : Bool) → nat_eq b 34 ≡ p → (q : Bool) → nat_eq b 92 ≡ q → quoted_front (bs ++ r) false ≡ option_map (changed (λ t. bs ++ t)) (quoted_front r false)
         → quoted_step p q b (bs ++ r) (quoted_front (bs ++ r)) ≡ option_map (changed (λ t. b ∷ (bs ++ t))) (quoted_front r false)
     go true e q f m = absurd ((h 0 (omega arith)).0 (eqb-true b 34 e))
     go false e true f m = absurd ((h 0 (omega arith)).1 (eqb-true b 92 f))
-    go false e false f m = ap (option_map (changed (λ t. b ∷ t))) m ∙ twice (quoted_front r false)
+    go false e false f m = ap (option_map (changed (λ t. b ∷ t))) m ∙ twice (b ∷ []) bs (quoted_front r false)
 
 pub char_plain : (c : ℕ) (r : List ℕ) → c ≢ 34 → c ≢ 92 → quoted_front (encode c ++ r) false ≡ option_map (changed (λ t. encode c ++ t)) (quoted_front r false)
 char_plain c r p q = plain_front (encode c) r (λ k h. (λ e. p (inside_one c [] (encode c) k (sym (append-nil (encode c))) h (omega (arith, e)) ∙ e), λ e. q (inside_one c [] (encode c) k (sym (append-nil (encode c))) h (omega (arith, e)) ∙ e)))
@@ -186,24 +181,12 @@ char_escaped c r = go (encode c) refl
     go : (l : List ℕ) → encode c ≡ l → quoted_front (l ++ r) true ≡ option_map (changed (λ t. l ++ t)) (quoted_front r false)
     go [] e = let some = len_utf8_bounds c in let len = length-encode c in let none = ap length e in absurd (omega (arith, some.0, len, none))
     go (b ∷ bs) e =
-        ap (option_map (changed (λ t. b ∷ t))) (plain_front bs r (λ k h. (later b bs k 34 e h (omega arith), later b bs k 92 e h (omega arith)))) ∙ twice (quoted_front r false)
-      where
-        twice : (o : Option (Front (List ℕ))) → option_map (changed (λ t. b ∷ t)) (option_map (changed (λ t. bs ++ t)) o) ≡ option_map (changed (λ t. b ∷ (bs ++ t))) o
-        twice None = refl
-        twice (Some f) = refl
+        ap (option_map (changed (λ t. b ∷ t))) (plain_front bs r (λ k h. (later b bs k 34 e h (omega arith), later b bs k 92 e h (omega arith)))) ∙ twice (b ∷ []) bs (quoted_front r false)
 
 -- one step of what is read so far
 pub unquoted_more : (out rest next new c : List ℕ) (e : Bool) (all : Option (Front (List ℕ))) → all ≡ option_map (changed (λ t. out ++ t)) (quoted_front rest e)
     → quoted_front rest e ≡ option_map (changed (λ t. c ++ t)) (quoted_front next false) → new ≡ out ++ c → all ≡ option_map (changed (λ t. new ++ t)) (quoted_front next false)
-unquoted_more out rest next new c e all h step is = h ∙ (ap (option_map (changed (λ t. out ++ t))) step ∙ (twice (quoted_front next false) ∙ ap (λ n. option_map (changed (λ t. n ++ t)) (quoted_front next false)) (sym is)))
-  where
-    twice : (o : Option (Front (List ℕ))) → option_map (changed (λ t. out ++ t)) (option_map (changed (λ t. c ++ t)) o) ≡ option_map (changed (λ t. (out ++ c) ++ t)) o
-    twice None = refl
-    twice (Some f) = ap (λ t. Some (record { it = t; rest = f.rest })) (sym (append_assoc out c f.it))
+unquoted_more out rest next new c e all h step is = h ∙ (ap (option_map (changed (λ t. out ++ t))) step ∙ (twice out c (quoted_front next false) ∙ ap (λ n. option_map (changed (λ t. n ++ t)) (quoted_front next false)) (sym is)))
 
 pub unquoted_start : (out bs : List ℕ) → out ≡ [] → quoted_front bs false ≡ option_map (changed (λ t. out ++ t)) (quoted_front bs false)
-unquoted_start out bs e = same (quoted_front bs false) ∙ ap (λ n. option_map (changed (λ t. n ++ t)) (quoted_front bs false)) (sym e)
-  where
-    same : (o : Option (Front (List ℕ))) → o ≡ option_map (changed (λ t. t)) o
-    same None = refl
-    same (Some f) = refl
+unquoted_start out bs e = unchanged (quoted_front bs false) ∙ ap (λ n. option_map (changed (λ t. n ++ t)) (quoted_front bs false)) (sym e)

@@ -1,19 +1,12 @@
 -- What stands at the front of a canonical text is what the reader finds there.
 use Rattle.std.proofs.Common.{◌≡◌, ℕ, zero, suc, ◌+◌, ◌*◌, ◌-◌, ◌<◌, ◌≤◌, ◌^◌, Bool, true, false, cond, nat_eq, eqb-true, eq-eqb, true≢false, List, [], ◌∷◌, ◌++◌, length, append_assoc, Option, Some, None, option_map, refl, sym, ap, ◌∙◌, subst, arith, ne_eqb}
 use denote.Ref.{Bor}
-use Rattle.patr_model.specs.Bytes.{is_digit}
+use Rattle.patr_canon.proofs.Names.{Closes, Event, EventFits, Id, IsArcFront, IsBareFront, IsItem, IsLookOf, IsNumberItem, IsNumbered, IsQuotedFront, IsSymbolFront, Look, OfAgain, OfArc, OfAtom, Opens, event_seen, is_digit, printed, reads, some_inj}
 use Rattle.patr_model.specs.Items.{AValue, AFirst, ANext, Follows, Item, AnAtom, AnAgain, AnOpening, item_of, item_front, number_item, with_number, value_item, text_of}
 use Rattle.patr_model.specs.Reading.{Front, changed, skip, Opens as Bracket, Numbers, Other, bare_front, digits_step, digits_front, printed_front, printed_step, quoted_step, quoted_front}
-use Rattle.patr_model.specs.Stack.{Event, OfAtom, OfAgain, Opens, OfArc, Closes}
-use Rattle.patr_model.specs.Text.{Look, printed}
-use Rattle.patr_model.proofs.Items.{reads}
-use Rattle.patr_model.proofs.Maps.{some_inj}
 use Rattle.patr_model.proofs.Spelling.{printed_back, printed_begins, skip_back}
-use Rattle.patr_text.specs.declared.symbols.Id.{Id}
-use Rattle.patr_canon.specs.Items.{EventFits, IsArcFront, IsBareFront, IsItem, IsLookOf, IsNumberItem, IsNumbered, IsQuotedFront, IsSymbolFront}
 use Rattle.patr_canon.specs.declared.event.Event as its
 use Rattle.patr_canon.specs.declared.event.Event.TheVariants as event
-use Rattle.patr_canon.specs.Walks.{event_seen}
 
 -- ---- how much is left
 

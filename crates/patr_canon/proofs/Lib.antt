@@ -1,3 +1,4 @@
+pub mod Names
 pub mod Quoted
 pub mod Orders
 pub mod Walks

@@ -1,22 +1,15 @@
 -- The nodes that have numbers.
 use Rattle.std.proofs.Common.{◌≡◌, ℕ, zero, suc, ◌+◌, ◌<◌, ◌≤◌, Bool, true, false, cond, not, ◌||◌, nat_eq, nat_lt, ltb-true, ltb-false, lt-ltb, true≢false, List, [], ◌∷◌, ◌++◌, append-nil, flat_map, length, take, drop, get_or, Option, Some, None, option_map, is_some, slice_get, refl, sym, ap, ◌∙◌, subst, arith}
-use Rattle.std.proofs.lemmas.List.{append_assoc, map-append, take_more, drop_more, take-append-drop}
+use Rattle.std.proofs.lemmas.Grind.{flat_map-append}
+use Rattle.patr_lists.proofs.Alls.{all_append}
+use Rattle.patr_canon.proofs.Names.{Again, AllByRecursion, AreOnce, Begun, Branch, Branches, Closes, Done, Event, EventIsNumbered, EventsAreNumbered, EventsTell, IsDone, IsStructure, IsValue, Leaf, Look, OfAgain, OfArc, OfAtom, Opens, Outline, Structure, Value, again_of, canonical, drop_more, event_seen, event_text, events, events_of, events_seen, from_one, kept, list_any, map-append, met_again, number_by, number_in, opened, opened_of, outline, place_in, place_longer, place_there, position, position_or_len, renumbered, renumbered_all, repeats, some_inj, take-append-drop, take_more, tree_of, visits}
 use Rattle.std.specs.HashSet.{HashSet, contains}
-use Rattle.std.specs.List.{AllByRecursion, list_any, position, position_or_len}
-use Rattle.patr_model.specs.Structure.{Value, Structure, IsStructure, IsValue}
-use Rattle.patr_model.specs.Stack.{Event, OfAtom, OfAgain, Opens, OfArc, Closes, event_text, events, events_of, met_again, opened}
-use Rattle.patr_model.specs.Text.{Look, Outline, Branches, Leaf, Again, Begun, Done, Branch, canonical, from_one, kept, number_in, outline, renumbered, renumbered_all, place_in, repeats, tree_of, visits}
-use Rattle.patr_model.specs.Laws.{EventsTell}
 use Rattle.patr_model.proofs.Keyed as keyed
 use Rattle.patr_model.proofs.Numbered.{tree_numbers}
-use Rattle.patr_model.proofs.Places.{place_longer, place_there}
 use Rattle.patr_model.proofs.Placed.{outline_is, walk_is_whole}
 use Rattle.patr_model.proofs.Rebuilt.{AreNumbers, AreNumbersOf}
 use Rattle.patr_model.proofs.Stack.{walks_by_stack, opened_append}
-use Rattle.patr_model.proofs.Maps.{some_inj}
 use Rattle.patr_canon.specs.declared.event.Event as its
-use Rattle.patr_canon.specs.Numbers.{AreOnce, EventsAreNumbered, again_of, number_by, opened_of}
-use Rattle.patr_canon.specs.Walks.{IsDone, event_seen, events_seen}
 use Rattle.patr_canon.proofs.Walks.{done_more}
 
 -- the one node, or none
@@ -68,10 +61,7 @@ again_added es i d set new n h e done updates = subst (IsDone new) (sym (again_t
 -- ---- the nodes that have numbers
 
 kept_more : (these ns : List ℕ) (n : ℕ) → kept these (ns ++ n ∷ []) ≡ kept these ns ++ cond (is_some (place_in these n)) (n ∷ []) []
-kept_more these [] n = go (is_some (place_in these n))
-  where
-    go : (b : Bool) → cond b (n ∷ []) [] ≡ cond b (n ∷ []) []
-    go b = refl
+kept_more these [] n = refl
 kept_more these (m ∷ ns) n = go (is_some (place_in these m)) (kept_more these ns n)
   where
     go : (b : Bool) → kept these (ns ++ n ∷ []) ≡ kept these ns ++ cond (is_some (place_in these n)) (n ∷ []) []
@@ -193,10 +183,6 @@ from_one_some : (o : Option ℕ) → 0 < from_one o → is_some o ≡ true
 from_one_some None h = absurd (omega (arith, h))
 from_one_some (Some i) h = refl
 
-numbered_append : (ns : List ℕ) (es fs : List Event) → EventsAreNumbered ns es → EventsAreNumbered ns fs → EventsAreNumbered ns (es ++ fs)
-numbered_append ns [] fs h k = k
-numbered_append ns (e ∷ es) fs h k = (h.0, numbered_append ns es fs h.1 k)
-
 mutual
   tree_numbered : (ns : List ℕ) (t : Outline ℕ) → AreNumbers (number_by ns) t → EventsAreNumbered ns (events t)
   tree_numbered ns (Leaf c) h = (tt, tt)
@@ -205,7 +191,7 @@ mutual
 
   branches_numbered : (ns : List ℕ) (bs : Branches ℕ) (first : Bool) → AreNumbersOf (number_by ns) bs → EventsAreNumbered ns (events_of first bs)
   branches_numbered ns Done first h = (tt, tt)
-  branches_numbered ns (Branch a x bs) first h = (tt, numbered_append ns (events x) (events_of false bs) (tree_numbered ns x h.0) (branches_numbered ns bs false h.1))
+  branches_numbered ns (Branch a x bs) first h = (tt, all_append (EventIsNumbered ns) (events x) (events_of false bs) (tree_numbered ns x h.0) (branches_numbered ns bs false h.1))
 
 -- numbers that a tree has stand for themselves in the renumbered one
 mutual
@@ -242,16 +228,12 @@ all_at P [] i d h k = absurd (omega (arith, h))
 all_at P (e ∷ es) zero d h k = k.0
 all_at P (e ∷ es) (suc i) d h k = all_at P es i d (omega (arith, h)) k.1
 
-flat_append : (f : Event → List ℕ) (es fs : List Event) → flat_map f (es ++ fs) ≡ flat_map f es ++ flat_map f fs
-flat_append f [] fs = refl
-flat_append f (e ∷ es) fs = ap (λ t. f e ++ t) (flat_append f es fs) ∙ sym (append_assoc (f e) (flat_map f es) (flat_map f fs))
-
 pub text_more : (f : Event → List ℕ) (es : List its.Event) (i : ℕ) (d : its.Event) (text : List ℕ) → i < length es → text ≡ flat_map f (events_seen (take i es))
     → text ++ f (event_seen (get_or es i d)) ≡ flat_map f (events_seen (take (i + 1) es))
 text_more f es i d text h e =
     ap (λ t. t ++ f (event_seen (get_or es i d))) e
     ∙ (ap (λ t. flat_map f (events_seen (take i es)) ++ t) (sym (append-nil (f (event_seen (get_or es i d)))))
-    ∙ (sym (flat_append f (events_seen (take i es)) (event_seen (get_or es i d) ∷ [])) ∙ ap (flat_map f) (sym (seen_more es i d h))))
+    ∙ (sym (flat_map-append f (events_seen (take i es)) (event_seen (get_or es i d) ∷ [])) ∙ ap (flat_map f) (sym (seen_more es i d h))))
 
 -- ---- what was met, where it is a value's events
 

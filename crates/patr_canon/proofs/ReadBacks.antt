@@ -1,36 +1,19 @@
 -- A text that some value of a structure has is read back.
 use Rattle.std.proofs.Common.{◌≡◌, ℕ, ◌<◌, ◌^◌, Bool, true, false, true≢false, ltb-true, List, [], ◌∷◌, map, length, Some, None, option_map, refl, sym, ap, ◌∙◌, subst, arith, zero-add}
 use Rattle.std.specs.Bool.{MatchBool}
-use Rattle.std.specs.Str.{bytes_eq}
-use Rattle.std.proofs.lemmas.List.{length-map}
+use Rattle.patr_canon.proofs.Names.{AreMoved, Atom, Feature, HasBuilt, HasText, IsBelow, IsBlock, IsBuiltOf, IsCanonical, IsMade, IsReadBack, IsStructure, IsValue, IsWritten, Node, NodesAreBelow, OfValue, Outline, RefIsHeld, Target, Value, ValueIsHeld, arc, arcs_from, built, bytes_eq, canonical, is_below, length-map, nodes_seen, nothing, outline, reads, ref_of, ref_seen, some_inj, structure_of, table_look, target_seen, value_of, value_seen, with_block}
 use Rattle.std.proofs.lemmas.Slice.Eq.{bytes_eq-Decides}
-use Rattle.patr_model.specs.Laws.{OfValue}
-use Rattle.patr_model.specs.Reading.{HasText, built, is_below}
-use Rattle.patr_model.specs.Structure.{Value, Atom, Node, arc, IsBelow, IsStructure, IsValue}
 use Rattle.patr_model.specs.Subsumption.{Same}
-use Rattle.patr_model.specs.Table.{table_look}
-use Rattle.patr_model.specs.Text.{Outline, canonical, outline}
 use Rattle.patr_model.proofs.Canonical.{one_text, outline_built, below_true}
-use Rattle.patr_model.proofs.Items.{reads}
 use Rattle.patr_model.proofs.Local.{local}
-use Rattle.patr_model.proofs.Maps.{some_inj}
 use Rattle.patr_model.proofs.Rebuilt.{IsRebuilt}
-use Rattle.patr_arena.specs.declared.value.Feature.{Feature}
-use Rattle.patr_arena.specs.Blocks.{IsBlock, nothing, with_block}
-use Rattle.patr_arena.specs.Shown.{RefIsHeld, ValueIsHeld, arcs_from, ref_of, value_of}
 use Rattle.patr_arena.proofs.RowsShow.{nothing_shown}
 use Rattle.patr_arena.proofs.Showing.{blocks_shown}
 use Rattle.patr_canon.specs.declared.reader.Reader.{Reader}
-use Rattle.patr_canon.specs.declared.reader.Target.{Target}
 use Rattle.patr_canon.specs.declared.reader.Target.TheVariants as target
-use Rattle.patr_canon.specs.Built.{HasBuilt, IsBuiltOf, IsWritten}
-use Rattle.patr_canon.specs.Made.{AreMoved, IsMade, ref_seen, value_seen}
-use Rattle.patr_canon.specs.Nodes.{NodesAreBelow}
-use Rattle.patr_canon.specs.ReadBack.{IsCanonical, IsReadBack, structure_of}
-use Rattle.patr_canon.specs.Readers.{nodes_seen, target_seen}
 use Rattle.patr_canon.proofs.Fitting.{outline_fits}
 use Rattle.patr_canon.proofs.Moved.{moved_length}
-use Rattle.patr_canon.proofs.SameNodes.{moved_all, of_block, one_way, root_below, so_many}
+use Rattle.patr_canon.proofs.SameNodes.{moved_all, of_block, one_way, ref_below, so_many}
 use Rattle.patr_canon.proofs.Spelled.{nodes_own}
 
 -- ---- what a block shows alone
@@ -61,7 +44,7 @@ has_text table order text block t is own symbol held prints = record {
   has = subst (λ x. HasText (table_look table order) (structure_of block) x text) (sym (root_is block t)) (record { structure = block_shown (length table) block is own; held = more_places block (target_seen t) held; prints = prints });
   held = root_held block t held;
   own = own;
-  root_own = root_below (length table) t symbol;
+  root_own = ref_below (length table) t symbol;
 }
 
 -- ---- a text that some value has
@@ -147,11 +130,3 @@ arena_value block (target.Node k) = ap Node (zero-add k)
 pub match_text : (r : Bool) (x y z : List ℕ) → r ≡ bytes_eq x y → z ≡ x → MatchBool r (z ≡ y) (z ≡ y → ⊥)
 match_text true x y z e h = h ∙ (bytes_eq-Decides x y).0 (sym e)
 match_text false x y z e h = λ p. true≢false (sym ((bytes_eq-Decides x y).1 (sym h ∙ p)) ∙ sym e)
-
-pub matched_true : (r : Bool) (A B : Type 0) → MatchBool r A B → r ≡ true → A
-matched_true true A B m e = m
-matched_true false A B m e = absurd (true≢false (sym e))
-
-pub matched_false : (r : Bool) (A B : Type 0) → MatchBool r A B → r ≡ false → B
-matched_false true A B m e = absurd (true≢false e)
-matched_false false A B m e = m

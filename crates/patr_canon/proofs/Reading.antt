@@ -1,36 +1,7 @@
 -- What the reader has after an event.
-use Rattle.std.proofs.Common.{◌≡◌, ℕ, ◌+◌, true, false, cond, nat_eq, true≢false, List, [], ◌∷◌, ◌++◌, map, length, Option, Some, None, is_some, Vec, refl, sym, ap, ◌∙◌}
-use Rattle.std.proofs.lemmas.List.{map-append, reverse-append, length-map, length-append}
-use Rattle.std.specs.HashMap as hash
-use Rattle.std.specs.HashMap.{HashMap}
-use Rattle.std.specs.declared.alloc.Global.{Global}
-use Rattle.patr_model.specs.Stack.{end_node, put_value}
-use Rattle.patr_model.specs.Structure.{Value, Node}
-use Rattle.patr_model.specs.Text.{place_in}
+use Rattle.std.proofs.Common.{◌≡◌, ℕ, ◌+◌, List, [], ◌∷◌, ◌++◌, map, length, Option, Vec, sym, ap, ◌∙◌}
+use Rattle.patr_canon.proofs.Names.{Global, Link, Node, Value, end_node, half_seen, length-append, length-map, link_seen, links_seen, map-append, nodes_seen, put_value, reverse-append, stack_seen}
 use Rattle.patr_canon.specs.declared.reader.Begun.{Begun}
-use Rattle.patr_canon.specs.declared.reader.Link.{Link}
-use Rattle.patr_canon.specs.Orders.{ArePlaces}
-use Rattle.patr_canon.specs.Readers.{half_seen, link_seen, links_seen, nodes_seen, stack_seen}
-use Rattle.patr_canon.proofs.Orders.{place_added, place_had}
-
--- ---- numbers
-
-pub number_had : {S : Type 0} (m : HashMap ℕ ℕ S) (number : ℕ) (numbers : List ℕ) → ArePlaces m numbers → is_some (hash.get nat_eq m number) ≡ true → ArePlaces m (numbers ++ number ∷ [])
-number_had m number numbers places there = λ a. go (place_in numbers number) refl a
-  where
-    go : (o : Option ℕ) → place_in numbers number ≡ o → (a : ℕ) → hash.get nat_eq m a ≡ place_in (numbers ++ number ∷ []) a
-    go (Some j) e a = places a ∙ sym (place_had numbers number j e a)
-    go None e a = absurd (true≢false (sym there ∙ ap is_some (places number ∙ e)))
-
-pub number_added : {S : Type 0} (m n : HashMap ℕ ℕ S) (number place : ℕ) (numbers : List ℕ) → ArePlaces m numbers → length numbers ≡ place → is_some (hash.get nat_eq m number) ≡ false
-    → ((q : ℕ) → hash.get nat_eq n q ≡ cond (nat_eq number q) (Some place) (hash.get nat_eq m q)) → ArePlaces n (numbers ++ number ∷ [])
-number_added m n number place numbers places is none updates = λ a.
-    updates a ∙ (ap (cond (nat_eq number a) (Some place)) (places a)
-    ∙ (ap (λ k. cond (nat_eq number a) (Some k) (place_in numbers a)) (sym is) ∙ sym (place_added numbers number (new (place_in numbers number) refl) a)))
-  where
-    new : (o : Option ℕ) → place_in numbers number ≡ o → place_in numbers number ≡ None
-    new None e = e
-    new (Some j) e = absurd (true≢false (sym (ap is_some (places number ∙ e)) ∙ none))
 
 -- ---- the begun nodes
 

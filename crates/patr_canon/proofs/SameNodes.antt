@@ -1,27 +1,9 @@
 -- Nodes whose arcs stand in another order are the same structure.
 use Rattle.std.proofs.Common.{◌≡◌, ℕ, zero, suc, ◌+◌, ◌<◌, Bool, true, false, cond, nat_lt, ltb-true, lt-ltb, List, [], ◌∷◌, map, length, slice_get, Option, Some, None, Vec, refl, sym, ap, ◌∙◌, subst, arith}
-use Rattle.std.specs.List.{AllByRecursion}
-use Rattle.std.proofs.lemmas.List.{length-map}
-use Rattle.std.proofs.lemmas.List.Elements.{All-from_recursion, recursion_from_All}
-use Rattle.std.proofs.lemmas.List.Sorted.{All-permutation}
-use Rattle.std.specs.declared.alloc.Global.{Global}
-use Rattle.patr_model.specs.Laws.{GiveOneText, OfSymbols, OfValue}
-use Rattle.patr_model.specs.Structure.{Value, Atom, Node, Arcs, Structure, arc, arcs_of, HasDistinct, IsBelow, IsStructure, IsValue}
+use Rattle.std.proofs.lemmas.Option.{slice_get-get_or}
+use Rattle.patr_canon.proofs.Names.{All-from_recursion, All-permutation, AllByRecursion, Arcs, ArcsAreBelow, AreMoved, Atom, Feature, GiveOneText, Global, HasDistinct, IsBelow, IsLookOf, IsRefBelow, IsStructure, IsValue, Link, Look, Node, NodeIsBelow, NodesAreBelow, OfSymbols, OfValue, Structure, Target, Value, arc, arcs_from, arcs_of, below_more_places, feature_seen, length-map, links_seen, nodes_seen, nothing, recursion_from_All, ref_seen, some_inj, table_look, target_seen, text_or, total, zeros}
 use Rattle.patr_model.specs.Subsumption.{MapsInto, image}
-use Rattle.patr_model.specs.Table.{table_look, text_or, total, zeros}
-use Rattle.patr_model.specs.Text.{Look}
-use Rattle.patr_model.proofs.Maps.{below_more_places, some_inj}
-use Rattle.patr_arena.specs.declared.value.Feature.{Feature}
-use Rattle.patr_arena.specs.Blocks.{nothing}
-use Rattle.patr_arena.specs.Shown.{arcs_from}
-use Rattle.patr_canon.specs.declared.reader.Link.{Link}
-use Rattle.patr_canon.specs.declared.reader.Target.{Target}
 use Rattle.patr_canon.specs.declared.reader.Target.TheVariants as target
-use Rattle.patr_canon.specs.Built.{ArcsAreBelow}
-use Rattle.patr_canon.specs.Items.{IsLookOf}
-use Rattle.patr_canon.specs.Made.{AreMoved, feature_seen, ref_seen}
-use Rattle.patr_canon.specs.Nodes.{IsRefBelow, NodeIsBelow, NodesAreBelow}
-use Rattle.patr_canon.specs.Readers.{links_seen, nodes_seen, target_seen}
 use Rattle.patr_canon.proofs.Moved.{moved_arcs}
 use Rattle.patr_canon.proofs.Orders.{moved_along}
 use Rattle.patr_canon.proofs.Spelled.{nodes_below}
@@ -75,7 +57,7 @@ so_many nodes block h = let a : length (nodes_seen nodes) ≡ length nodes = sim
 
 -- ---- symbols
 
-ref_below : (n : ℕ) (t : Target) → OfValue (λ c. c < n) (target_seen t) → IsRefBelow n (ref_seen t)
+pub ref_below : (n : ℕ) (t : Target) → OfValue (λ c. c < n) (target_seen t) → IsRefBelow n (ref_seen t)
 ref_below n (target.Atom c) h = h
 ref_below n (target.Node k) h = tt
 
@@ -94,20 +76,12 @@ moved_below n (v ∷ nodes) (fs ∷ block) h k = (
   moved_below n nodes block h.1 k.1,
 )
 
-pub root_below : (n : ℕ) (t : Target) → OfValue (λ c. c < n) (target_seen t) → IsRefBelow n (ref_seen t)
-root_below n t h = ref_below n t h
-
 -- a Look of the table gives the table's symbols the table's texts
 one_text : (table : List (List ℕ)) (order : List ℕ) (l : Look) → IsLookOf table l → (c : ℕ) → c < length table → GiveOneText l (table_look table order) c
 one_text table order l is c lt = go (slice_get table c) refl
   where
-    missing : (ts : List (List ℕ)) (i : ℕ) → i < length ts → slice_get ts i ≡ None → ⊥
-    missing [] i h e = omega (arith, h)
-    missing (t ∷ ts) zero h e = cc
-    missing (t ∷ ts) (suc i) h e = missing ts i (omega (arith, h)) e
-
     go : (o : Option (List ℕ)) → slice_get table c ≡ o → l.text c ≡ text_or (slice_get table c) (zeros (suc (total table + c)))
-    go None e = absurd (missing table c lt e)
+    go None e = let bad = sym e ∙ slice_get-get_or table c [] lt in cc
     go (Some t) e = is.texts c t e ∙ sym (ap (λ o. text_or o (zeros (suc (total table + c)))) e)
 
 module _ (table : List (List ℕ)) (order : List ℕ) (l : Look) (is : IsLookOf table l) where

@@ -1,16 +1,7 @@
 -- Values whose symbols have texts.
 use Rattle.std.proofs.Common.{◌≡◌, ℕ, zero, suc, ◌<◌, ◌≤◌, Bool, true, false, cond, nat_eq, eqb-true, List, [], ◌∷◌, ◌++◌, map, Option, Some, None, option_and_then, refl, subst, arith}
-use Rattle.std.specs.List.{AllByRecursion}
-use Rattle.patr_model.specs.Structure.{Value, Atom, Node, Arcs, Structure, along, arc, arcs_of, at}
-use Rattle.patr_model.specs.Laws.{OfValue}
-use Rattle.patr_model.proofs.Maps.{some_inj}
-use Rattle.patr_arena.specs.declared.value.Ref.{Ref}
+use Rattle.patr_canon.proofs.Names.{AllByRecursion, AllOldHeld, Arcs, AreSpelled, Atom, Feature, IsRefBelow, Node, NodeIsBelow, NodesAreBelow, OfValue, OldIsHeld, OldRefIsHeld, Ref, Shown, Structure, Value, along, arc, arcs_from, arcs_of, at, nothing, ref_of, some_inj, with_block}
 use Rattle.patr_arena.specs.declared.value.Ref.TheVariants as ref
-use Rattle.patr_arena.specs.declared.value.Feature.{Feature}
-use Rattle.patr_arena.specs.Blocks.{AllOldHeld, OldIsHeld, OldRefIsHeld, nothing, with_block}
-use Rattle.patr_arena.specs.Shown.{Shown, arcs_from, ref_of}
-use Rattle.patr_canon.specs.Nodes.{IsRefBelow, NodeIsBelow, NodesAreBelow}
-use Rattle.patr_canon.specs.Walks.{AreSpelled}
 
 arc_all : (P : ℕ → Type 0) (es : Arcs) (a : ℕ) (x : Value) → AllByRecursion (λ e. P e.attribute × OfValue P e.to) es → along es a ≡ Some x → P a × OfValue P x
 arc_all P [] a x h e = cc

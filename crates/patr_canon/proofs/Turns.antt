@@ -1,27 +1,16 @@
 -- The reader's loop: one event after another.
 use Rattle.std.proofs.Common.{◌≡◌, ℕ, zero, suc, ◌+◌, ◌<◌, ◌≤◌, true, false, List, [], ◌∷◌, ◌++◌, length, slice_get, append_assoc, append-nil, length-append, Option, Some, None, option_map, Vec, refl, sym, ap, ◌∙◌, subst, arith}
-use Rattle.std.specs.List.{AllByRecursion}
+use Rattle.patr_lists.proofs.Alls.{all_more, all_weaker}
+use Rattle.patr_lists.proofs.Places.{get_left}
+use Rattle.patr_canon.proofs.Names.{AllByRecursion, Arcs, ArePlaces, Atom, Building, Closes, Event, EventFits, EventIsSpelled, Global, Half, HasFed, IsItem, IsLookOf, Link, Look, Node, OfAgain, OfArc, OfAtom, OfValue, Opens, Outline, Structure, Target, Value, building, building_seen, built, end_node, event_seen, events, expect_behind, fed, fed_one, nodes_seen, numbered_place, place_in, put_value, reads, set_attribute, stack_seen, target_seen}
 use Rattle.patr_model.specs.Items.{Expect, AValue, AFirst, ANext, Follows, text_of}
-use Rattle.patr_model.specs.Laws.{OfValue}
-use Rattle.patr_model.specs.Reading.{built, numbered_place}
-use Rattle.patr_model.specs.Stack.{Event, OfAtom, OfAgain, Opens, OfArc, Closes, Building, Half, building, end_node, events, fed, fed_one, put_value, set_attribute}
-use Rattle.patr_model.specs.Structure.{Value, Atom, Node, Arc, Arcs, Structure}
-use Rattle.patr_model.specs.Text.{Look, Outline, place_in}
 use Rattle.patr_model.proofs.Building.{builds}
-use Rattle.patr_model.proofs.Items.{reads}
 use Rattle.patr_text.specs.Texts.{Extends}
 use denote.Ref.{Bor}
-use Rattle.std.specs.declared.alloc.Global.{Global}
 use Rattle.patr_canon.specs.declared.event.Event as its
 use Rattle.patr_canon.specs.declared.reader.Begun.{Begun}
-use Rattle.patr_canon.specs.declared.reader.Link.{Link}
-use Rattle.patr_canon.specs.declared.reader.Target.{Target}
 use Rattle.patr_canon.specs.Built.{ArcIsBelow, ArcsAreBelow, HalfIsBelow, HasBuilt, IsBelow, IsWritten, RootIsBelow}
-use Rattle.patr_canon.specs.Items.{EventFits, IsItem, IsLookOf, expect_behind}
-use Rattle.patr_canon.specs.Orders.{ArePlaces}
-use Rattle.patr_canon.specs.Readers.{HasFed, building_seen, nodes_seen, stack_seen, target_seen}
 use Rattle.patr_canon.specs.declared.reader.Reader.{Reader}
-use Rattle.patr_canon.specs.Walks.{EventIsSpelled, event_seen}
 
 -- ---- symbols have texts
 
@@ -30,16 +19,13 @@ still_value n m (Atom c) le h = omega (arith, le, h)
 still_value n m (Node k) le h = tt
 
 still_arcs : (n m : ℕ) (es : Arcs) → n ≤ m → ArcsAreBelow n es → ArcsAreBelow m es
-still_arcs n m [] le h = tt
-still_arcs n m (e ∷ es) le h = (((let a = h.0.0 in omega (arith, le, a)), still_value n m e.to le h.0.1), still_arcs n m es le h.1)
+still_arcs n m es le h = all_weaker (ArcIsBelow n) (ArcIsBelow m) (λ e k. ((let a = k.0 in omega (arith, le, a)), still_value n m e.to le k.1)) es h
 
 still_stack : (n m : ℕ) (hs : List Half) → n ≤ m → AllByRecursion (HalfIsBelow n) hs → AllByRecursion (HalfIsBelow m) hs
-still_stack n m [] le h = tt
-still_stack n m (x ∷ hs) le h = (((let a = h.0.0 in omega (arith, le, a)), still_arcs n m x.arcs le h.0.1), still_stack n m hs le h.1)
+still_stack n m hs le h = all_weaker (HalfIsBelow n) (HalfIsBelow m) (λ x k. ((let a = k.0 in omega (arith, le, a)), still_arcs n m x.arcs le k.1)) hs h
 
 still_nodes : (n m : ℕ) (N : Structure) → n ≤ m → AllByRecursion (ArcsAreBelow n) N → AllByRecursion (ArcsAreBelow m) N
-still_nodes n m [] le h = tt
-still_nodes n m (es ∷ N) le h = (still_arcs n m es le h.0, still_nodes n m N le h.1)
+still_nodes n m N le h = all_weaker (ArcsAreBelow n) (ArcsAreBelow m) (λ es k. still_arcs n m es le k) N h
 
 still_root : (n m : ℕ) (o : Option Value) → n ≤ m → RootIsBelow n o → RootIsBelow m o
 still_root n m None le h = tt
@@ -48,18 +34,10 @@ still_root n m (Some x) le h = still_value n m x le h
 pub still_below : (n m : ℕ) (b : Building) → n ≤ m → IsBelow n b → IsBelow m b
 still_below n m b le h = record { stack = still_stack n m b.stack le h.stack; root = still_root n m b.root le h.root; nodes = still_nodes n m b.nodes le h.nodes }
 
-arcs_push : (n : ℕ) (es : Arcs) (e : Arc) → ArcsAreBelow n es → ArcIsBelow n e → ArcsAreBelow n (es ++ e ∷ [])
-arcs_push n [] e h k = (k, tt)
-arcs_push n (f ∷ es) e h k = (h.0, arcs_push n es e h.1 k)
-
-nodes_push : (n : ℕ) (N : Structure) (es : Arcs) → AllByRecursion (ArcsAreBelow n) N → ArcsAreBelow n es → AllByRecursion (ArcsAreBelow n) (N ++ es ∷ [])
-nodes_push n [] es h k = (k, tt)
-nodes_push n (fs ∷ N) es h k = (h.0, nodes_push n N es h.1 k)
-
 put_below : (n : ℕ) (hs : List Half) (root : Option Value) (N : Structure) (M : List ℕ) (x : Value) → AllByRecursion (HalfIsBelow n) hs → RootIsBelow n root → AllByRecursion (ArcsAreBelow n) N → OfValue (λ c. c < n) x
     → IsBelow n (put_value hs root N M x)
 put_below n [] root N M x s r q v = record { stack = tt; root = v; nodes = q }
-put_below n (h ∷ hs) root N M x s r q v = record { stack = ((s.0.0, arcs_push n h.arcs (record { attribute = h.attribute; to = x }) s.0.1 (s.0.0, v)), s.1); root = r; nodes = q }
+put_below n (h ∷ hs) root N M x s r q v = record { stack = ((s.0.0, all_more (ArcIsBelow n) h.arcs (record { attribute = h.attribute; to = x }) s.0.1 (s.0.0, v)), s.1); root = r; nodes = q }
 
 set_below : (n a : ℕ) (hs : List Half) → a < n → AllByRecursion (HalfIsBelow n) hs → AllByRecursion (HalfIsBelow n) (set_attribute a hs)
 set_below n a [] lt s = tt
@@ -67,7 +45,7 @@ set_below n a (h ∷ hs) lt s = ((lt, s.0.1), s.1)
 
 end_below : (n : ℕ) (hs : List Half) (root : Option Value) (N : Structure) (M : List ℕ) → AllByRecursion (HalfIsBelow n) hs → RootIsBelow n root → AllByRecursion (ArcsAreBelow n) N → IsBelow n (end_node hs root N M)
 end_below n [] root N M s r q = record { stack = tt; root = r; nodes = q }
-end_below n (h ∷ hs) root N M s r q = put_below n hs root (N ++ h.arcs ∷ []) (M ++ h.number ∷ []) (Node (length N)) s.1 r (nodes_push n N h.arcs q s.0.1) tt
+end_below n (h ∷ hs) root N M s r q = put_below n hs root (N ++ h.arcs ∷ []) (M ++ h.number ∷ []) (Node (length N)) s.1 r (all_more (ArcsAreBelow n) N h.arcs q s.0.1) tt
 
 again_below : (n : ℕ) (N : Structure) (o : Option ℕ) → OfValue (λ c. c < n) (numbered_place N o)
 again_below n N None = tt
@@ -119,12 +97,7 @@ pub record IsOn (l : Look) (o : Outline ℕ) (e : Expect) (b : Building) (text :
 
 -- a Look of a table that got longer
 pub look_before : (old new : List (List ℕ)) (l : Look) → Extends old new → IsLookOf new l → IsLookOf old l
-look_before old new l h is = record { texts = λ a t e. is.texts a t (subst (λ ts. slice_get ts a ≡ Some t) (sym h.1) (longer old h.0 a t e)); differ = is.differ }
-  where
-    longer : (xs ys : List (List ℕ)) (a : ℕ) (t : List ℕ) → slice_get xs a ≡ Some t → slice_get (xs ++ ys) a ≡ Some t
-    longer [] ys a t e = cc
-    longer (x ∷ xs) ys zero t e = e
-    longer (x ∷ xs) ys (suc a) t e = longer xs ys a t e
+look_before old new l h is = record { texts = λ a t e. is.texts a t (subst (λ ts. slice_get ts a ≡ Some t) (sym h.1) (get_left old h.0 a t e)); differ = is.differ }
 
 abbrev pub written_before : (old new : List (List ℕ)) (text : List ℕ) (o : Outline ℕ) → Extends old new → IsWritten new text o → IsWritten old text o
 written_before old new text o h w = record { look = w.look; is_look = look_before old new w.look h w.is_look; fits = w.fits; text_is = w.text_is }

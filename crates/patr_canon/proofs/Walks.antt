@@ -1,30 +1,21 @@
 -- The steps of a walk over a value.
 use Rattle.std.proofs.Common.{◌≡◌, ℕ, suc, ◌+◌, ◌<◌, ◌≤◌, Bool, true, false, cond, nat_eq, eqb-true, List, [], ◌∷◌, ◌++◌, append-nil, length, length-append, reverse, Option, Some, None, option_and_then, is_some, refl, sym, ap, ◌∙◌, subst, arith}
-use Rattle.std.proofs.lemmas.List.{append_assoc, map-append, length-map, reverse-append}
-use Rattle.std.proofs.lemmas.List.Elements.{recursion_from_All}
+use Rattle.patr_canon.proofs.Names.{All, AllByRecursion, ArcIsHeld, Arcs, AreBelow, AreSpelled, Atom, Closes, Event, EventIsSpelled, EventsAreSpelled, Id, IsDone, IsEntering, IsHeld, IsShown, IsStructure, IsWalking, Look, Node, OfAgain, OfArc, OfAtom, Opens, Shown, Structure, Task, TaskIsReady, append_assoc, arc_tasks, arcs_of, arcs_seen, at, event_seen, events, events_of, events_seen, full, in_order, left_of, length-map, list_any, look_of, map-append, number_of, place_in, recursion_from_All, reverse-append, tree_of, value_of, walk_arcs, walk_node}
 use Rattle.std.specs.HashSet.{HashSet, IsEmpty, contains}
-use Rattle.std.specs.List.{All, AllByRecursion, list_any}
 use Rattle.patr_lists.proofs.Alls.{all_append}
 use Rattle.patr_model.specs.Structure as structure
-use Rattle.patr_model.specs.Structure.{Node, Atom, Arcs, Structure, HasDistinct, IsStructure, along, arcs_of, at}
-use Rattle.patr_model.specs.Stack.{Event, OfAtom, OfAgain, Opens, OfArc, Closes, events, events_of, full}
-use Rattle.patr_model.specs.Text.{Look, in_order, place_in, tree_of, walk_arcs, walk_node}
-use Rattle.patr_model.proofs.Sorted.{head_along, order_all, tail_along}
+use Rattle.patr_model.proofs.Shared.{all_along}
+use Rattle.patr_model.proofs.Sorted.{order_all}
 use Rattle.patr_model.proofs.Stack.{full_node}
-use Rattle.patr_text.specs.declared.symbols.Id.{Id}
 use Rattle.patr_arena.specs.declared.value.Value.{Value}
 use Rattle.patr_arena.specs.declared.value.Value.TheVariants as value
 use Rattle.patr_arena.specs.declared.value.Addr.{Addr}
-use Rattle.patr_arena.specs.Shown.{Shown, IsHeld, IsShown, number_of, value_of}
 use Rattle.patr_arena.proofs.Showing.{held_below}
 use Rattle.patr_canon.specs.declared.event.Event as its
 use Rattle.patr_canon.specs.declared.event.Event.TheVariants as event
 use Rattle.patr_canon.specs.declared.order.Arc as arc
 use Rattle.patr_canon.specs.declared.order.Look as code
-use Rattle.patr_canon.specs.declared.walk.Task.{Task}
 use Rattle.patr_canon.specs.declared.walk.Task.TheVariants as task
-use Rattle.patr_canon.specs.Orders.{ArcIsHeld, AreBelow, arcs_seen, look_of}
-use Rattle.patr_canon.specs.Walks.{AreSpelled, EventIsSpelled, EventsAreSpelled, IsDone, IsEntering, IsWalking, TaskIsReady, arc_tasks, event_seen, events_seen, left_of}
 use Rattle.patr_canon.proofs.Orders.{place_added, place_had}
 
 -- ---- arcs as tasks
@@ -61,16 +52,6 @@ spelled_along n S x a y h e = record {
   atoms = λ p c q. h.atoms (a ∷ p) c (ap (λ o. option_and_then (λ z. at S z p) o) e ∙ q);
   attributes = λ p z b w q r. h.attributes (a ∷ p) z b w (ap (λ o. option_and_then (λ u. at S u p) o) e ∙ q) r;
 }
-
-nowhere : Look
-nowhere = record { text = λ n. []; order = [] }
-
-all_along : (P : ℕ → structure.Value → Type 0) (es : Arcs) → HasDistinct es → ((a : ℕ) (x : structure.Value) → along es a ≡ Some x → P a x) → AllByRecursion (λ e. P e.attribute e.to) es
-all_along P [] d h = tt
-all_along P (e ∷ es) d h = (
-  h e.attribute e.to (head_along nowhere e es),
-  all_along P es d.1 (λ a x q. h a x (tail_along nowhere e es a (λ z. let bad : None ≡ Some x = sym d.0 ∙ (ap (along es) z ∙ q) in cc) ∙ q)),
-)
 
 -- a node's arcs have texts, and so do the values that they lead to
 spelled_arcs : (n : ℕ) (S : Structure) (m : ℕ) → IsStructure S → AreSpelled n S (Node m) → AllByRecursion (λ e. (e.attribute < n) × AreSpelled n S e.to) (arcs_of S (Node m))

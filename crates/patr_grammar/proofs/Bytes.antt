@@ -1,10 +1,8 @@
 -- Tokens, one after another: how many bytes they have, and what is made of each.
 use Rattle.std.proofs.Common.{◌≡◌, ℕ, zero, suc, ◌+◌, ◌-◌, ◌≤◌, ◌<◌, List, [], ◌∷◌, length, map, take, drop, get_or, refl, sym, ap, ◌∙◌, arith, add-one}
 use Rattle.std.proofs.Common.{◌++◌}
-use Rattle.std.proofs.lemmas.List.{map_push, take_more}
-use Rattle.patr_model.specs.declared.front.Kind.TheVariants.{Less}
+use Rattle.patr_grammar.proofs.Names.{Less, bytes_of, map_push, take_more}
 use Rattle.patr_text.specs.declared.token.Token.{Token}
-use Rattle.patr_grammar.specs.Views.{bytes_of}
 
 abbrev pub blank : Token
 blank = record { kind = Less; start = 0; end = 0; line = 0; column = 0 }

@@ -1,10 +1,8 @@
 -- The first of some lexemes, as a pattern of the code takes it.
 use Rattle.std.proofs.Common.{◌≡◌, ℕ, suc, ◌-◌, ◌≤◌, ◌<◌, List, [], ◌∷◌, length, get_or, take, drop, refl, sym, ap, ◌∙◌, arith, eqb, true, false}
 use Rattle.std.proofs.Math.Seq.{take-length}
-use Rattle.std.proofs.lemmas.Bool.Decides.{nat_tests}
-use Rattle.patr_model.specs.declared.front.Kind.TheVariants.{Less}
+use Rattle.patr_grammar.proofs.Names.{Less, Lexeme, nat_tests}
 use Rattle.patr_model.specs.declared.notation.Key.TheVariants.{Plain}
-use Rattle.patr_grammar.specs.declared.lexeme.Lexeme.{Lexeme}
 
 abbrev pub blank : Lexeme
 blank = record { kind = Less; key = Plain; word = record { 0 = 0 }; category = record { 0 = 0 }; line = 0; column = 0 }

@@ -1,32 +1,18 @@
 -- From what the lexemes of features stand for to what their tokens stand for.
 use Rattle.std.proofs.Common.{◌≡◌, ℕ, List, map, Result, Ok, Err, IfOk, IfErr, Vec, Global, refl, sym, ap, ◌∙◌, subst}
-use Rattle.patr_model.specs.Grammar.{Row}
+use Rattle.patr_grammar.proofs.Names.{AnswersFeatures, Each, Fault, FeatureText, Got, Id, IsLexeme, IsText, Lexeme, Memory, Parse, Place, Refused, Row, SameFeatureText, SameRow, Stops, StopsAt, Token, after, by_id, by_text, cause_at, elements, features_view, first_place, place_seen, refusal_seen, seen, stage, start_place}
 use Rattle.patr_model.specs.Table.{IsTable}
-use Rattle.patr_model.specs.Renaming.{Each, SameRow}
-use Rattle.patr_model.specs.Tokens.{Place, Token, after, start_place}
-use Rattle.patr_model.specs.Lexemes.{by_text}
-use Rattle.patr_model.specs.Built.{stage}
 use Rattle.patr_model.specs.Parsing as parsing
-use Rattle.patr_model.specs.Parsing.{Parse, Got, Stops}
-use Rattle.patr_model.specs.Productions.{FeatureText, elements}
 use Rattle.patr_model.specs.GrammarText.{place_of}
 use Rattle.patr_model.specs.LexiconText.{BadFeatures, as_features}
-use Rattle.patr_model.specs.Agreeing.{SameFeatureText}
 use Rattle.patr_model.proofs.SameParses.{SameParse}
-use Rattle.patr_text.specs.declared.fault.Fault.{Fault}
-use Rattle.patr_text.specs.declared.fault.Fault.TheVariants.{Memory, Refused}
-use Rattle.patr_text.specs.declared.symbols.Id.{Id}
 use Rattle.patr_text.specs.declared.token.Token as code
-use Rattle.patr_text.specs.Tokens.{seen}
-use Rattle.patr_grammar.specs.declared.lexeme.Lexeme.{Lexeme}
 use Rattle.patr_grammar.specs.declared.place.Place as code_place
 use Rattle.patr_grammar.specs.declared.grammar.Element.{Element}
 use Rattle.patr_grammar.specs.declared.grammar.GrammarCause.{GrammarCause}
 use Rattle.patr_grammar.specs.declared.grammar.GrammarCause.TheVariants as cause
 use Rattle.patr_grammar.specs.declared.reader.Refusal.{Refusal}
 use Rattle.patr_grammar.specs.declared.reader.Refusal.TheVariants.{Expected, NotAConstituent, PathTooLong, TooManySymbols, LaterForm}
-use Rattle.patr_grammar.specs.Reading.{IsText}
-use Rattle.patr_grammar.specs.Views.{by_id, IsLexeme, first_place, place_seen, refusal_seen, cause_at, features_view, StopsAt, AnswersFeatures}
 use Rattle.patr_grammar.specs.Features.{features_in, StandForFeatures, refused_at, AreRefusedFor}
 use Rattle.patr_grammar.proofs.FeatureRefusals.{IsRefusedSo, refused_so}
 use Rattle.patr_grammar.proofs.Meanings.{words_agree, places, refusal_by_text, same_refusal}

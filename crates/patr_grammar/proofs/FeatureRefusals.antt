@@ -1,12 +1,8 @@
 -- Why features are refused: something else is expected, a path is too long, or a form is a later one.
 use Rattle.std.proofs.Common.{ℕ, zero, suc, Bool, true, false, cond, List, [], ◌∷◌, length, sym, subst}
-use Rattle.patr_model.specs.declared.front.Kind.TheVariants.{Less, Greater, Equal, OpenBrace, Word}
+use Rattle.patr_grammar.proofs.Names.{AnyAttribute, Equal, Expected, FeatureText, Got, Greater, Item, LaterForm, Less, OpenBrace, Parse, PathTooLong, Reads, Refusal, Stops, Word, Words, ◌>>=◌, begins, begins_feature, braced, elements, equation, feature, is_kind, is_symbol, many, one, path, single_feature, stage, star, term, word_list}
 use Rattle.patr_model.specs.declared.notation.What.{What}
 use Rattle.patr_model.specs.declared.notation.What.TheVariants as what
-use Rattle.patr_model.specs.Lexemes.{Words, is_kind, is_symbol, begins}
-use Rattle.patr_model.specs.Parsing.{Refusal, Expected, PathTooLong, LaterForm, Parse, Got, Stops, ◌>>=◌, Reads, one, many, star}
-use Rattle.patr_model.specs.Built.{stage}
-use Rattle.patr_model.specs.Productions.{Item, FeatureText, AnyAttribute, word_list, path, term, equation, braced, begins_feature, single_feature, feature, elements}
 use Rattle.patr_grammar.proofs.Features.{closed, elements_is}
 
 -- such a refusal

@@ -1,11 +1,8 @@
 -- Features up to the end.
 use Rattle.std.proofs.Common.{◌≡◌, List, [], ◌∷◌, refl}
 use Rattle.patr_model.specs.declared.notation.What.TheVariants as what
-use Rattle.patr_model.specs.Grammar.{Row}
-use Rattle.patr_model.specs.Lexemes.{Words}
-use Rattle.patr_model.specs.Parsing.{Parse, Got, Stops, ◌>>=◌, Reads, star, Expected}
+use Rattle.patr_grammar.proofs.Names.{Expected, FeatureText, Got, Item, Parse, Reads, Row, Stops, Words, ◌>>=◌, begins_feature, elements, feature, row, star}
 use Rattle.patr_model.specs.Stages.{Stage}
-use Rattle.patr_model.specs.Productions.{Item, FeatureText, row, begins_feature, feature, elements}
 
 module _ {T W : Type 0} (words : Words T W) (s : Stage) where
   -- nothing may be left behind features

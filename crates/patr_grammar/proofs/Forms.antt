@@ -1,13 +1,8 @@
 -- What productions give at the stage that is built.
 use Rattle.std.proofs.Common.{◌≡◌, ℕ, suc, ◌-◌, Bool, true, false, cond, List, [], ◌∷◌, ◌++◌, map, nat_eq, None, slice_index_or, ◌<◌, length, refl, sym, ap, ◌∙◌, arith, append-nil}
-use Rattle.std.proofs.lemmas.Bool.Decides.{nat_tests}
-use Rattle.patr_model.specs.declared.front.Kind.TheVariants.{OpenBrace, CloseBrace, OpenParen}
+use Rattle.patr_grammar.proofs.Names.{CloseBrace, Expected, Got, Item, LaterForm, Left, OpenBrace, OpenParen, Parse, RuleClause, RuleText, Settings, Single, Stands, Stops, SymbolText, TooManySymbols, Words, ◌>>=◌, before, begins, clause, clauses, concluded, grammar, is_key, is_kind, is_symbol, item, lexical_rule, name_tokens, nat_tests, outcome, parameter, settings, stage, symbol_item, symbol_of, template, with_rules}
 use Rattle.patr_model.specs.declared.notation.Key.TheVariants.{Let, Define, Parameter}
 use Rattle.patr_model.specs.declared.notation.What.TheVariants as what
-use Rattle.patr_model.specs.Lexemes.{Words, is_kind, is_key, is_symbol, begins}
-use Rattle.patr_model.specs.Parsing.{Parse, Got, Stops, ◌>>=◌, Expected, TooManySymbols, LaterForm}
-use Rattle.patr_model.specs.Built.{stage}
-use Rattle.patr_model.specs.Productions.{Left, Item, Single, SymbolText, RuleText, RuleClause, Settings, symbol_of, name_tokens, symbol_item, item, template, lexical_rule, parameter, clause, clauses, settings, before, Stands, with_rules, concluded, outcome, grammar}
 use Rattle.patr_grammar.proofs.Loops.{onto, onto_one}
 
 module _ {T W : Type 0} (words : Words T W) where

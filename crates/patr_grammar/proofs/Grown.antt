@@ -1,14 +1,8 @@
 -- A grammar that was read stays what was read while the table grows.
 use Rattle.std.proofs.Common.{ℕ, List, map, Option, None, Some}
-use Rattle.patr_model.specs.Grammar.{Row, Rows, Done, One, OneOf, Optional, None', Or}
-use Rattle.patr_model.specs.Renaming.{Each, Both, SameRow, SameRows'}
-use Rattle.patr_model.specs.Agreeing.{SameSymbolText, SamePathText, SameTermText, SameEquationText, SameFeatureText, SameRuleText, SameTemplate, SameLexicalRule}
-use Rattle.patr_model.specs.Productions.{Grammar, SymbolText, PathText, TermText, AtomText, OfPath, EquationText, FeatureText, Equates, Names, RuleText, Template, LexicalRule}
-use Rattle.patr_text.specs.declared.symbols.Id.{Id}
-use Rattle.patr_text.specs.Texts.{Extends}
+use Rattle.patr_grammar.proofs.Names.{AtomText, Both, Done, Each, Equates, EquationText, Extends, FeatureText, Grammar, Id, IsGrammar, IsText, LexicalRule, Names, None', OfPath, One, OneOf, Optional, Or, PathText, Row, Rows, RuleText, SameEquationText, SameFeatureText, SameLexicalRule, SamePathText, SameRow, SameRows', SameRuleText, SameSymbolText, SameTemplate, SameTermText, SymbolText, Template, TermText, lexical_rule_seen, rule_seen, template_seen}
 use Rattle.patr_grammar.specs.declared.grammar.Grammar as code_grammar
 use Rattle.patr_grammar.specs.Defaults.{paths_seen}
-use Rattle.patr_grammar.specs.Reading.{IsText, IsGrammar, rule_seen, template_seen, lexical_rule_seen}
 use Rattle.patr_grammar.proofs.Tables.{each_still, text_still}
 
 -- what belongs together by fewer pairs of words does by more

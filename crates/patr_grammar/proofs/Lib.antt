@@ -1,3 +1,4 @@
+pub mod Names
 pub mod Bytes
 pub mod Cells
 pub mod Forms

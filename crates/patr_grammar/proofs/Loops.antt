@@ -2,17 +2,9 @@
 use Rattle.std.proofs.Common.{◌≡◌, ℕ, zero, suc, ◌-◌, ◌≤◌, Bool, true, false, List, [], ◌∷◌, ◌++◌, length, map, Err, Vec, Global, refl, sym, ap, ◌∙◌, arith, append_assoc, append-nil}
 use Rattle.std.proofs.lemmas.Bool.{true≢false}
 use Rattle.patr_model.specs.Parsing as parsing
-use Rattle.patr_model.specs.Parsing.{Parse, Got, Stops, ◌>>=◌, Reads, many}
-use Rattle.patr_model.specs.Productions.{Left, Item, SymbolText, RuleText, Clause, RuleClause, row, many_right, begins_outer, item, star_right, right_side, with_name, clause, clauses}
-use Rattle.patr_model.specs.Built.{stage}
-use Rattle.patr_text.specs.declared.fault.Fault.{Fault}
-use Rattle.patr_text.specs.declared.fault.Fault.TheVariants.{Memory, Refused}
-use Rattle.patr_text.specs.declared.symbols.Id.{Id}
-use Rattle.patr_grammar.specs.declared.lexeme.Lexeme.{Lexeme}
+use Rattle.patr_grammar.proofs.Names.{Clause, Fault, Gives, GivesAt, Got, Id, Item, Left, Lexeme, Memory, Parse, Reads, Refused, RuleClause, RuleText, Stops, SymbolText, ◌>>=◌, begins_outer, by_id, clause, clauses, item, item_seen, many, many_right, refusal_seen, right_side, right_view, row, rule_view, stage, star_right, with_name}
 use Rattle.patr_grammar.specs.declared.reader.Refusal.{Refusal}
 use Rattle.patr_grammar.specs.declared.grammar.RuleText as code_rule
-use Rattle.patr_grammar.specs.Reading.{item_seen}
-use Rattle.patr_grammar.specs.Views.{by_id, refusal_seen, Gives, GivesAt, right_view, rule_view}
 
 -- things that were read before
 abbrev pub onto : {T W S X : Type 0} → List X → Parse T W S (List X) → Parse T W S (List X)
@@ -56,31 +48,27 @@ unfolding many_right
 items_end front zero s h = ap (λ (xs : Items). Got xs s) (append-nil front)
 items_end front (suc n) s h = rw h (ap (λ (xs : Items). Got xs s) (append-nil front))
 
-not_empty : (ts : List Lexeme) → begins_outer by_id ts ≡ true → 1 ≤ length ts
-not_empty [] h = absurd cc
-not_empty (t ∷ ts) h = omega arith
+pub not_empty_by : (starts : List Lexeme → Bool) → starts [] ≡ false → (ts : List Lexeme) → starts ts ≡ true → 1 ≤ length ts
+not_empty_by starts none [] h = absurd (true≢false (sym h ∙ none))
+not_empty_by starts none (t ∷ ts) h = omega arith
 
 pub right_stops : (f : Fault Refusal) (front : Items) (n : ℕ) (s state : Left Lexeme) (rest ts : List Lexeme) → begins_outer by_id s.tokens ≡ true → length s.tokens ≤ n → so_far front n s ≡ all_items ts
     → GivesAt item_seen (Err f) state rest (plain_item s) → Gives right_view (Err f) rest (right_side by_id stage ts)
 right_stops Memory front n s state rest ts h le e g = tt
 right_stops (Refused r) front n s state rest ts h le e g =
-    let k = one_more n (omega (arith, not_empty s.tokens h)) in
+    let k = one_more n (omega (arith, not_empty_by (begins_outer by_id) refl s.tokens h)) in
     ap (λ (p : ItemParse). p >>= λ xs s. Got (row xs) s.tokens) (sym e ∙ ap (λ (m : ℕ). so_far front m s) k ∙ items_stop front (n - 1) s (refusal_seen r) rest h g)
 
 pub right_more : (front : Items) (n : ℕ) (s t : Left Lexeme) (x : Item (SymbolText Id)) (ts : List Lexeme) → begins_outer by_id s.tokens ≡ true → length s.tokens ≤ n → so_far front n s ≡ all_items ts → plain_item s ≡ Got x t
     → so_far (front ++ x ∷ []) (n - 1) t ≡ all_items ts
 right_more front n s t x ts h le e g =
-    let k = one_more n (omega (arith, not_empty s.tokens h)) in
+    let k = one_more n (omega (arith, not_empty_by (begins_outer by_id) refl s.tokens h)) in
     sym (more_items front (n - 1) s t x h g) ∙ ap (λ (m : ℕ). so_far front m s) (sym k) ∙ e
 
 pub right_ends : (front : Items) (n : ℕ) (s : Left Lexeme) (ts : List Lexeme) → begins_outer by_id s.tokens ≡ false → so_far front n s ≡ all_items ts → right_side by_id stage ts ≡ Got (row front) s.tokens
 right_ends front n s ts h e = ap (λ (p : ItemParse). p >>= λ xs s. Got (row xs) s.tokens) (sym e ∙ items_end front n s h)
 
 -- ---- things as long as one may begin
-
-pub not_empty_by : (starts : List Lexeme → Bool) → starts [] ≡ false → (ts : List Lexeme) → starts ts ≡ true → 1 ≤ length ts
-not_empty_by starts none [] h = absurd (true≢false (sym h ∙ none))
-not_empty_by starts none (t ∷ ts) h = omega arith
 
 module _ {X : Type 0} (starts : List Lexeme → Bool) (read : Reads Lexeme Id X) where
   abbrev pub many_from : List X → ℕ → List Lexeme → Parse Lexeme Id (List Lexeme) (List X)

@@ -1,25 +1,12 @@
 -- From what lexemes stand for to what the bytes of a text stand for.
-use Rattle.std.proofs.Common.{◌≡◌, ℕ, List, [], ◌∷◌, map, codes, slice_get, slice_index_or, Option, None, Some, IfSome, IfNone, length, ◌<◌, Result, Ok, Err, Vec, Global, IfOk, IfErr, IsUtf8, IsTrue, nat_eq, refl, sym, ap, ◌∙◌, subst, arith}
-use Rattle.std.proofs.lemmas.Bool.Decides.{nat_tests}
-use Rattle.std.specs.Option.{ok_or}
+use Rattle.std.proofs.Common.{◌≡◌, ℕ, List, [], ◌∷◌, map, codes, slice_get, slice_index_or, Some, length, ◌<◌, Result, Ok, Err, Vec, Global, IfOk, IfErr, IsUtf8, IsTrue, nat_eq, refl, sym, ap, ◌∙◌, subst, arith}
+use Rattle.patr_grammar.proofs.Names.{Answers, AreRules, Each, Extends, Fault, Id, IsLexeme, IsRefusedAt, IsRefusedFor, IsText, Lexeme, Memory, NoRules, Outcome, Place, Refused, SameOutcome, SameRefusal, Stands, StandsFor, Token, WordsAgree, after, by_id, by_text, first_place, first_texts, grammar, grammar_seen, lexical_rule_seen, nat_tests, outcome, refusal_seen, rule_seen, stage, start_place, template_seen, tokens_of}
 use Rattle.patr_model.specs.Bytes.{same_text}
 use Rattle.patr_model.specs.Table.{IsTable}
-use Rattle.patr_model.specs.Renaming.{Each}
-use Rattle.patr_model.specs.Tokens.{Place, Token, after, start_place, tokens_of}
-use Rattle.patr_model.specs.Lexemes.{by_text}
 use Rattle.patr_model.specs.Parsing as parsing
-use Rattle.patr_model.specs.Parsing.{Got}
-use Rattle.patr_model.specs.Built.{stage}
 use Rattle.patr_model.specs.Productions as production
-use Rattle.patr_model.specs.Productions.{Outcome, Stands, NoRules, clauses, outcome, grammar}
 use Rattle.patr_model.specs.GrammarText as told
 use Rattle.patr_model.specs.GrammarText.{place_of, of_outcome, of_scanned, reading}
-use Rattle.patr_model.specs.Agreeing.{WordsAgree, SameRefusal, SameOutcome}
-use Rattle.patr_text.specs.declared.fault.Fault.{Fault}
-use Rattle.patr_text.specs.declared.fault.Fault.TheVariants.{Memory, Refused}
-use Rattle.patr_text.specs.declared.symbols.Id.{Id}
-use Rattle.patr_text.specs.Texts.{Extends, first_texts}
-use Rattle.patr_grammar.specs.declared.lexeme.Lexeme.{Lexeme}
 use Rattle.patr_grammar.specs.declared.grammar.RuleText.{RuleText}
 use Rattle.patr_grammar.specs.declared.grammar.Template.{Template}
 use Rattle.patr_grammar.specs.declared.grammar.LexicalRule.{LexicalRule}
@@ -29,8 +16,6 @@ use Rattle.patr_grammar.specs.declared.grammar.GrammarCause.TheVariants as cause
 use Rattle.patr_grammar.specs.declared.reader.Refusal.{Refusal}
 use Rattle.patr_grammar.specs.declared.reader.Refusal.TheVariants.{Expected, NotAConstituent, PathTooLong, TooManySymbols, LaterForm}
 use Rattle.patr_grammar.specs.Defaults.{cat_number, paths_seen, by_category}
-use Rattle.patr_grammar.specs.Reading.{IsText, rule_seen, template_seen, lexical_rule_seen, grammar_seen, StandsFor, IsRefusedFor}
-use Rattle.patr_grammar.specs.Views.{by_id, IsLexeme, first_place, refusal_seen, IsRefusedAt, AreRules, Answers}
 use Rattle.patr_model.proofs.Agreeing.{grammars_agree}
 use Rattle.patr_grammar.proofs.Forms.{stands}
 use Rattle.patr_grammar.proofs.Tables.{text_still}

@@ -1,11 +1,7 @@
 -- Features by words of two types that agree: what is read belongs together.
 use Rattle.std.proofs.Common.{List, [], ◌∷◌, refl, sym, subst}
-use Rattle.patr_model.specs.Renaming.{Each, SameRow}
-use Rattle.patr_model.specs.Lexemes.{Words}
-use Rattle.patr_model.specs.Parsing.{◌>>=◌, star}
+use Rattle.patr_grammar.proofs.Names.{Each, FeatureText, Item, SameFeatureText, SameRow, Words, WordsAgree, ◌>>=◌, begins_feature, elements, feature, star}
 use Rattle.patr_model.specs.Stages.{Stage}
-use Rattle.patr_model.specs.Productions.{Item, FeatureText, begins_feature, feature, elements}
-use Rattle.patr_model.specs.Agreeing.{SameFeatureText, WordsAgree}
 use Rattle.patr_model.proofs.SameParses.{SameItem, row_agrees, SameParse, SameReads, got, stops, bind_agrees, star_agrees}
 use Rattle.patr_model.proofs.SameProductions.{begins_feature_agrees, feature_agrees}
 use Rattle.patr_grammar.proofs.Features.{closed, elements_is}

@@ -1,10 +1,8 @@
 -- Tokens in order, and the bytes that they have.
 use Rattle.std.proofs.Common.{◌≡◌, ℕ, ◌+◌, ◌≤◌, List, [], ◌∷◌, length, ap, arith}
-use Rattle.std.specs.List.{All}
+use Rattle.patr_grammar.proofs.Names.{All, InOrder, IsCut, IsSpelled, bytes_of}
 use Rattle.std.proofs.lemmas.List.Elements.{All-nil, All-cons, All-head, All-tail}
 use Rattle.patr_text.specs.declared.token.Token.{Token}
-use Rattle.patr_text.specs.Tokens.{IsCut, InOrder}
-use Rattle.patr_grammar.specs.Views.{IsSpelled, bytes_of}
 
 pub spelled_in_order : (text : List ℕ) (ts : List Token) (at end : ℕ) → All (IsCut text) ts → InOrder at end ts → All (IsSpelled text) ts
 spelled_in_order text [] at end cut order = All-nil (IsSpelled text)

@@ -1,11 +1,8 @@
 -- Tables of texts that grow.
 use Rattle.std.proofs.Common.{◌≡◌, ℕ, Bool, true, false, cond, List, [], ◌∷◌, ◌++◌, slice_get, Some, refl, sym, ap, ◌∙◌, subst, append_assoc, append-nil}
+use Rattle.patr_model.proofs.RenamedVariants.{each_append}
 use Rattle.patr_lists.proofs.Places.{get_left}
-use Rattle.patr_model.specs.Renaming.{Each}
-use Rattle.patr_model.specs.Tokens.{Token}
-use Rattle.patr_text.specs.Texts.{holds, with_text, Extends}
-use Rattle.patr_grammar.specs.declared.lexeme.Lexeme.{Lexeme}
-use Rattle.patr_grammar.specs.Views.{IsLexeme}
+use Rattle.patr_grammar.proofs.Names.{Each, Extends, IsLexeme, Lexeme, Token, holds, with_text}
 
 extends_by : (b : Bool) (texts : List (List ℕ)) (t : List ℕ) → Extends texts (cond b texts (texts ++ t ∷ []))
 extends_by true texts t = ([], sym (append-nil texts))
@@ -20,10 +17,7 @@ extends_trans a b c p q = (p.0 ++ q.0, q.1 ∙ ap (λ (u : List (List ℕ)). u +
 -- ---- lists whose members belong together
 
 pub each_push : {X Y : Type 0} (R : X → Y → Type 0) (xs : List X) (ys : List Y) (x : X) (y : Y) → Each R xs ys → R x y → Each R (xs ++ x ∷ []) (ys ++ y ∷ [])
-each_push R [] [] x y h r = (r, tt)
-each_push R [] (b ∷ ys) x y h r = absurd h
-each_push R (a ∷ xs) [] x y h r = absurd h
-each_push R (a ∷ xs) (b ∷ ys) x y h r = (h.0, each_push R xs ys x y h.1 r)
+each_push R xs ys x y h r = each_append R xs (x ∷ []) ys (y ∷ []) h (r, tt)
 
 pub each_still : {X Y : Type 0} (R S : X → Y → Type 0) → ((x : X) (y : Y) → R x y → S x y) → (xs : List X) (ys : List Y) → Each R xs ys → Each S xs ys
 each_still R S f [] [] h = tt

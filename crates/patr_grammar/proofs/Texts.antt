@@ -1,13 +1,10 @@
 -- Words of the notation, and indices.
 use Rattle.std.proofs.Common.{◌≡◌, ℕ, zero, suc, ◌+◌, ◌-◌, ◌<◌, Bool, true, false, cond, ◌&&◌, List, [], ◌∷◌, ◌++◌, length, map, take, drop, IsTrue, ◌↔◌, refl, sym, ap, ◌∙◌, arith, add-one}
 use Rattle.std.proofs.lemmas.Bool.{false≢true}
-use Rattle.std.proofs.lemmas.List.{take_rest}
+use Rattle.patr_grammar.proofs.Names.{after_first, all_digits, is_index, is_keyword, list_all, lower, nat_tests, take_rest, without_index}
 use Rattle.std.specs.Char.{to_ascii_lowercase, is_ascii_digit}
-use Rattle.std.specs.List.{list_all}
-use Rattle.std.proofs.lemmas.Bool.Decides.{nat_tests}
 use Rattle.patr_model.proofs.Canonical.{same_true, same_is}
 use Rattle.patr_model.specs.Bytes.{same_text}
-use Rattle.patr_model.specs.Lexemes.{lower, is_keyword, all_digits, is_index, after_first, without_index}
 
 pub lower_is : (b : ℕ) → to_ascii_lowercase b ≡ lower b
 lower_is b = grind (arith, nat_tests)

@@ -1,23 +1,11 @@
 -- What productions of paths and equations give.
 use Rattle.std.proofs.Common.{◌≡◌, ℕ, zero, suc, ◌-◌, ◌≤◌, Bool, true, false, cond, not, ◌&&◌, ◌||◌, List, [], ◌∷◌, ◌++◌, length, map, nat_eq, Err, Vec, Global, refl, sym, ap, ◌∙◌, arith, append-nil}
-use Rattle.std.specs.List.{list_any}
-use Rattle.std.proofs.lemmas.Bool.Decides.{nat_tests}
-use Rattle.patr_model.specs.declared.front.Kind.TheVariants.{Less, OpenBrace, Word}
+use Rattle.patr_grammar.proofs.Names.{AnyAttribute, Equates, EquationText, Expected, Fault, FeatureText, Gives, Got, Head, Id, Item, LaterForm, Less, Lexeme, Memory, OpenBrace, Parse, PathTooLong, Reads, Refused, Single, Stops, Word, ◌>>=◌, begins, begins_feature, begins_ruleitem, braced, by_id, element_seen, elements, equation, equation_seen, equations_view, feature, feature_seen, features_view, is_among, is_kind, is_symbol, list_any, nat_tests, one, path, refusal_seen, row, rule_equation, ruleitems, single_feature, stage, star, word_list}
 use Rattle.patr_model.specs.declared.notation.What.TheVariants as what
-use Rattle.patr_model.specs.Lexemes.{is_kind, is_symbol, begins}
-use Rattle.patr_model.specs.Parsing.{Parse, Got, Stops, ◌>>=◌, Reads, one, star, Expected, PathTooLong, LaterForm}
-use Rattle.patr_model.specs.Built.{stage}
-use Rattle.patr_model.specs.Productions.{Item, Single, Head, AnyAttribute, EquationText, FeatureText, Equates, row, symbols_of, word_list, path, equation, braced, begins_ruleitem, rule_equation, ruleitems, begins_feature, single_feature, feature, elements}
-use Rattle.patr_text.specs.declared.fault.Fault.{Fault}
-use Rattle.patr_text.specs.declared.fault.Fault.TheVariants.{Memory, Refused}
-use Rattle.patr_text.specs.declared.symbols.Id.{Id}
-use Rattle.patr_grammar.specs.declared.lexeme.Lexeme.{Lexeme}
 use Rattle.patr_grammar.specs.declared.reader.Refusal.{Refusal}
 use Rattle.patr_grammar.specs.declared.grammar.Item as code_item
 use Rattle.patr_grammar.specs.declared.grammar.Item.TheVariants as item
-use Rattle.patr_grammar.specs.Reading.{equation_seen, element_seen, feature_seen}
 use Rattle.patr_grammar.specs.declared.grammar.Element.{Element}
-use Rattle.patr_grammar.specs.Views.{by_id, refusal_seen, is_among, Gives, equations_view, features_view}
 use Rattle.patr_grammar.proofs.Features.{closed, elements_is}
 use Rattle.patr_grammar.proofs.Loops.{onto, onto_one, many_from, many_stops, many_ends}
 

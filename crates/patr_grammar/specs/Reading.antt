@@ -1,5 +1,5 @@
 -- What bytes stand for, as the code has it: a grammar, or why they stand for none.
-use Rattle.std.specs.Prelude.{◌≡◌, ℕ, List, [], ◌∷◌, map, Some, slice_get}
+use Rattle.std.specs.Prelude.{◌≡◌, ℕ, List, map, Some, slice_get}
 use Rattle.patr_model.specs.Grammar.{Row}
 use Rattle.patr_model.specs.Parsing as parsing
 use Rattle.patr_model.specs.Productions as production

@@ -1,7 +1,5 @@
 use Rattle.std.proofs.Common.{◌≡◌, not, sym, ap, ◌∙◌, subst, take, drop}
-use Rattle.std.specs.List.{prefix_len}
-use Rattle.std.specs.Str.{IsCharBoundary}
-use Rattle.patr_model.specs.Reading.{is_end}
+use Rattle.patr_canon.proofs.Names.{IsCharBoundary, is_end, prefix_len}
 use Rattle.patr_canon.proofs.Fronts.{bare_is, bare_boundary}
 use Rattle.patr_canon.proofs.front.bare_front.Goals as goal
 

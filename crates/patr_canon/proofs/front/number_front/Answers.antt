@@ -1,8 +1,5 @@
 use Rattle.std.proofs.Common.{◌≡◌, ◌≤◌, ◌^◌, List, ℕ, length, take, drop, sym, ap, ◌∙◌, subst}
-use Rattle.std.specs.List.{prefix_len}
-use Rattle.std.specs.Str.{IsCharBoundary}
-use Rattle.patr_model.specs.Bytes.{is_digit}
-use Rattle.patr_model.specs.Reading.{Front, digits_front}
+use Rattle.patr_canon.proofs.Names.{Front, IsCharBoundary, digits_front, is_digit, prefix_len}
 use Rattle.patr_canon.specs.Fronts.{IsNumberFront}
 use Rattle.patr_canon.proofs.Fronts.{digits_boundary, digits_split, digits_all}
 use Rattle.patr_canon.proofs.front.number_front.Goals as goal

@@ -1,7 +1,5 @@
 use Rattle.std.proofs.Common.{◌≡◌, ℕ, ◌+◌, ◌*◌, get_or, drop, sym, ap, ◌∙◌, arith}
-use Rattle.std.proofs.lemmas.List.Sums.{prefix_len_passes}
-use Rattle.patr_model.specs.Bytes.{is_digit}
-use Rattle.patr_model.specs.Reading.{Front, digits_front}
+use Rattle.patr_canon.proofs.Names.{Front, digits_front, is_digit, prefix_len_passes}
 use Rattle.patr_canon.proofs.Fronts.{digit_range, digit_step, digits_grow}
 use Rattle.patr_canon.proofs.front.number_of.Goals as goal
 

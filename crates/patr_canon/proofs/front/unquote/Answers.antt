@@ -1,7 +1,6 @@
 use Rattle.std.proofs.Common.{◌≡◌, ◌++◌, ◌∷◌, ℕ, List, true, false, Bool, option_map, sym, ap, ◌∙◌, subst}
-use Rattle.std.specs.String.{string_bytes}
+use Rattle.patr_canon.proofs.Names.{changed, quoted_front, string_bytes}
 use lib.Utf8.{encode}
-use Rattle.patr_model.specs.Reading.{changed, quoted_front}
 use Rattle.patr_canon.proofs.Fronts.{char_plain, char_escaped, unquoted_more}
 use Rattle.patr_canon.proofs.front.unquote.Goals as goal
 

@@ -1,6 +1,5 @@
 use Rattle.std.proofs.Common.{◌≡◌, ◌++◌, length, false, option_map}
-use Rattle.std.specs.String.{string_bytes}
-use Rattle.patr_model.specs.Reading.{changed, quoted_front}
+use Rattle.patr_canon.proofs.Names.{changed, quoted_front, string_bytes}
 use Rattle.patr_canon.proofs.front.unquote.Given as goal
 
 -- what was appended, and then what is read of the rest, is what is read of all

@@ -1,6 +1,5 @@
 use Rattle.std.proofs.Common.{take}
-use Rattle.patr_model.specs.Stack.{met_again}
-use Rattle.patr_canon.specs.Walks.{IsDone, events_seen}
+use Rattle.patr_canon.proofs.Names.{IsDone, events_seen, met_again}
 use Rattle.patr_canon.proofs.numbers.met_again.Given as goal
 
 -- the nodes that are met again so far

@@ -1,6 +1,5 @@
 use Rattle.std.proofs.Common.{sym, ◌∙◌}
-use Rattle.patr_model.specs.Stack.{met_again}
-use Rattle.patr_canon.specs.Walks.{events_seen}
+use Rattle.patr_canon.proofs.Names.{events_seen, met_again}
 use Rattle.patr_canon.proofs.Numbering.{numbered_added, numbered_kept, numbered_left}
 use Rattle.patr_canon.proofs.numbers.numbered.Goals as goal
 

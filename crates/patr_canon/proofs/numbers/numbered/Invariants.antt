@@ -1,7 +1,5 @@
 use Rattle.std.proofs.Common.{◌≡◌, take}
-use Rattle.patr_model.specs.Stack.{met_again, opened}
-use Rattle.patr_model.specs.Text.{kept}
-use Rattle.patr_canon.specs.Walks.{events_seen}
+use Rattle.patr_canon.proofs.Names.{events_seen, kept, met_again, opened}
 use Rattle.patr_canon.proofs.numbers.numbered.Given as goal
 
 -- the nodes with a number so far

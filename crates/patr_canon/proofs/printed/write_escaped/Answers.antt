@@ -1,8 +1,6 @@
 use Rattle.std.proofs.Common.{◌++◌, flat_map, sym, ap}
-use Rattle.std.specs.String.{string_bytes}
-use Rattle.patr_lists.proofs.Results.{if_ok_is}
+use Rattle.patr_canon.proofs.Names.{escaped, if_ok_is, string_bytes}
 use lib.Utf8.{encode}
-use Rattle.patr_model.specs.Text.{escaped}
 use Rattle.patr_canon.proofs.Quoted.{plain_char}
 use Rattle.patr_canon.proofs.printed.write_escaped.Goals as goal
 

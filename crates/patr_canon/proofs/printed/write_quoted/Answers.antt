@@ -1,7 +1,5 @@
 use Rattle.std.proofs.Common.{◌++◌, ◌∷◌, [], flat_map, ap, ◌∙◌, append_assoc}
-use Rattle.std.specs.String.{string_bytes}
-use Rattle.patr_lists.proofs.Results.{if_ok_is}
-use Rattle.patr_model.specs.Text.{escaped}
+use Rattle.patr_canon.proofs.Names.{escaped, if_ok_is, string_bytes}
 use lib.Utf8.{encode, encodes}
 use Rattle.patr_canon.proofs.Quoted.{quoted_more, text_more, text_all}
 use Rattle.patr_canon.proofs.printed.write_quoted.Goals as goal

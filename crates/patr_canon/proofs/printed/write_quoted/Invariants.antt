@@ -1,7 +1,6 @@
 use Rattle.std.proofs.Common.{◌≡◌, ◌++◌, ◌∷◌, flat_map}
-use Rattle.std.specs.String.{string_bytes}
+use Rattle.patr_canon.proofs.Names.{escaped, string_bytes}
 use lib.Utf8.{encodes}
-use Rattle.patr_model.specs.Text.{escaped}
 use Rattle.patr_canon.proofs.printed.write_quoted.Given as goal
 
 abbrev pub invariant-loop-character : goal.invariant-loop-character

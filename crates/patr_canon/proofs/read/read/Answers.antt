@@ -1,4 +1,5 @@
-use Rattle.std.proofs.Common.{rules, ◌≡◌, ℕ, ◌<◌, true, false, true≢false, eqb-true, List, [], ◌∷◌, length, refl, arith, subst, sym, ap, ◌∙◌}
+use Rattle.std.proofs.Common.{rules, ◌≡◌, ℕ, ◌<◌, true, false, true≢false, eqb-true, List, [], length, arith, subst, sym, ap, ◌∙◌}
+use Rattle.std.proofs.lemmas.List.{nil_from_length}
 use Rattle.std.specs.Bool.{◌==◌}
 use Rattle.patr_text.specs.Texts.{Extends, first_texts}
 use Rattle.patr_canon.specs.Items.{IsFurther, IsItem, IsSpelledItem, expected_seen}
@@ -9,8 +10,7 @@ not_empty : (bs : List ℕ) → false ≡ (length bs == 0) → bs ≡ [] → ⊥
 not_empty bs h e = true≢false (sym (h ∙ ap (λ (l : List ℕ). length l == 0) e))
 
 empty : (bs : List ℕ) → true ≡ (length bs == 0) → bs ≡ []
-empty [] h = refl
-empty (b ∷ bs) h = let none = eqb-true (length (b ∷ bs)) 0 (sym h) in absurd (omega (arith, none))
+empty bs h = nil_from_length bs (eqb-true (length bs) 0 (sym h))
 
 has_some : (table : List (List ℕ)) → Extends first_texts table → 0 < length table
 unfolding first_texts

@@ -1,16 +1,6 @@
 use Rattle.std.proofs.Common.{◌≡◌, List, length, subst, sym, ap, ◌∙◌}
-use Rattle.patr_model.specs.Table.{table_look}
-use Rattle.patr_model.specs.Text.{canonical}
-use Rattle.patr_arena.specs.Arenas.{shown_of}
-use Rattle.patr_arena.specs.Blocks.{OldIsHeld, nothing, with_block}
-use Rattle.patr_arena.specs.Paths.{ids}
-use Rattle.patr_arena.specs.Shown.{Shown, ValueIsHeld, value_of}
-use Rattle.patr_arena.specs.declared.value.Feature.{Feature}
+use Rattle.patr_canon.proofs.Names.{AreSpelled, Feature, OldIsHeld, Shown, ValueIsHeld, canonical, ids, nothing, shown_of, structure_of, table_look, target_seen, value_of, value_seen, with_block}
 use Rattle.patr_arena.specs.declared.value.Value.{Value}
-use Rattle.patr_canon.specs.Made.{value_seen}
-use Rattle.patr_canon.specs.ReadBack.{structure_of}
-use Rattle.patr_canon.specs.Readers.{target_seen}
-use Rattle.patr_canon.specs.Walks.{AreSpelled}
 use Rattle.patr_canon.proofs.ReadBacks.{arena_value, match_text, value_is_held}
 use Rattle.patr_canon.proofs.Spelled.{block_spelled, nodes_own}
 use Rattle.patr_canon.proofs.read_back.prints.Goals as goal

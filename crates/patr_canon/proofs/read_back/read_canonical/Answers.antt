@@ -1,17 +1,8 @@
 use Rattle.std.proofs.Common.{◌≡◌, Some, None, Vec, ℕ, ◌<◌, ◌^◌, List, Option, ◌+◌, ◌-◌, length, arith, subst, sym, ap, ◌∙◌}
+use Rattle.std.proofs.lemmas.Bool.{MatchBool-at_false, MatchBool-at_true}
 use Rattle.std.specs.Option.{option_map}
-use Rattle.std.specs.declared.alloc.Global.{Global}
-use Rattle.patr_arena.specs.Paths.{ids}
-use Rattle.patr_canon.specs.Built.{HasBuilt, IsReadBelow, RootIsBelow}
-use Rattle.patr_model.specs.Laws.{OfValue}
-use Rattle.patr_model.specs.Reading.{is_below}
-use Rattle.patr_arena.specs.declared.value.Ref.{Ref}
-use Rattle.patr_canon.specs.declared.reader.Link.{Link}
-use Rattle.patr_canon.specs.Made.{AreMoved, IsMade}
-use Rattle.patr_canon.specs.ReadBack.{IsReadBack}
-use Rattle.patr_canon.specs.Readers.{target_seen}
-use Rattle.patr_canon.specs.declared.reader.Target.{Target}
-use Rattle.patr_canon.proofs.ReadBacks.{below_is, has_text, matched_false, matched_true, no_reader, no_root, no_block, no_node, other_text}
+use Rattle.patr_canon.proofs.Names.{AreMoved, Global, HasBuilt, IsMade, IsReadBack, IsReadBelow, Link, OfValue, Ref, RootIsBelow, Target, ids, is_below, target_seen}
+use Rattle.patr_canon.proofs.ReadBacks.{below_is, has_text, no_reader, no_root, no_block, no_node, other_text}
 use Rattle.patr_canon.proofs.SameNodes.{moved_below}
 use Rattle.patr_canon.proofs.read_back.read_canonical.Goals as goal
 
@@ -66,7 +57,7 @@ returns-then-not-same-clause-answer c = λ k.
     other_text c.read.new.symbols (ids c.args.order.now) c.args.text.now (few (length c.args.symbols.now) (length c.args.text.now) c.requires.room) k c.in-Some.reader
     (subst (HasBuilt c.read.new.symbols c.args.text.now) c.in-Some.is c.in_ok-reader.ensures.built) c.in-Some-root.root c.in-Some-root.is c.in-Some-2.block moved c.len.ensures.block
     (moved_below (length c.read.new.symbols) c.in-Some.reader.nodes.items c.in-Some-2.block moved below.1) (root_symbol (length c.read.new.symbols) c.in-Some.reader.root c.in-Some-root.root c.in-Some-root.is below.0)
-    (matched_false c.in_ok-same.same _ _ c.in_ok-same.ensures c.if-not-same.true)
+    (MatchBool-at_false _ _ c.if-not-same.true c.in_ok-same.ensures)
 
 pub returns-clause-answer : goal.returns-clause-answer
 returns-clause-answer c =
@@ -76,4 +67,4 @@ returns-clause-answer c =
     (has_text c.read.new.symbols (ids c.args.order.now) c.args.text.now c.in-Some-2.block c.in-Some-root.root c.len.ensures.block
     (moved_below (length c.read.new.symbols) c.in-Some.reader.nodes.items c.in-Some-2.block moved below.1) (root_symbol (length c.read.new.symbols) c.in-Some.reader.root c.in-Some-root.root c.in-Some-root.is below.0)
     (below_is (length c.in-Some-2.block) (target_seen c.in-Some-root.root) (c.if-not-is_there.ensures ∙ ap (λ (n : ℕ). is_below n (target_seen c.in-Some-root.root)) c.len.ensures.len))
-    (matched_true c.in_ok-same.same _ _ c.in_ok-same.ensures c.if-not-same.false))
+    (MatchBool-at_true _ _ c.if-not-same.false c.in_ok-same.ensures))

@@ -1,5 +1,5 @@
 use Rattle.std.proofs.Common.{sym}
-use Rattle.patr_canon.proofs.Reading.{number_had, number_added}
+use Rattle.patr_canon.proofs.Orders.{number_had, number_added}
 use Rattle.patr_canon.proofs.reader.note.Goals as goal
 
 pub returns-then-contains_key : goal.returns-then-contains_key

@@ -1,12 +1,6 @@
 use Rattle.std.proofs.Common.{ℕ, zero, suc, ◌<◌, ◌∷◌, [], List, length, lit<, sym, ap, subst, ◌∙◌, arith}
-use Rattle.std.specs.List.{AllByRecursion}
-use Rattle.patr_model.specs.Structure.{Node, arcs_of}
-use Rattle.patr_model.specs.Laws.{OfValue}
-use Rattle.patr_arena.specs.declared.value.Feature.{Feature}
+use Rattle.patr_canon.proofs.Names.{AllByRecursion, AreSpelled, Feature, Node, OfValue, Shown, arcs_of, nothing, number_of, with_block}
 use Rattle.patr_arena.specs.declared.value.Ref.TheVariants as ref
-use Rattle.patr_arena.specs.Blocks.{nothing, with_block}
-use Rattle.patr_arena.specs.Shown.{Shown, number_of}
-use Rattle.patr_canon.specs.Walks.{AreSpelled}
 use Rattle.patr_canon.proofs.Spelled.{all_spelled, spelled_more}
 use Rattle.patr_canon.proofs.tests.a_value_over_a_base_has_a_text.Goals as goal
 

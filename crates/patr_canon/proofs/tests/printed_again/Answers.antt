@@ -1,14 +1,6 @@
 use Rattle.std.proofs.Common.{◌≡◌, ℕ, ◌<◌, List, length, subst, sym, ap, ◌∙◌}
-use Rattle.patr_model.specs.Laws.{OfValue}
-use Rattle.patr_arena.specs.Arenas.{shown_of}
-use Rattle.patr_arena.specs.Blocks.{nothing, with_block}
-use Rattle.patr_arena.specs.Shown.{RefIsHeld, Shown, ref_of}
-use Rattle.patr_arena.specs.declared.value.Feature.{Feature}
-use Rattle.patr_arena.specs.declared.value.Ref.{Ref}
+use Rattle.patr_canon.proofs.Names.{AreSpelled, Feature, IsOwn, IsRefBelow, OfValue, Ref, RefIsHeld, Shown, nothing, ref_of, shown_of, with_block}
 use Rattle.patr_arena.specs.declared.value.Ref.TheVariants as ref
-use Rattle.patr_canon.specs.Nodes.{IsRefBelow}
-use Rattle.patr_canon.specs.ReadBack.{IsOwn}
-use Rattle.patr_canon.specs.Walks.{AreSpelled}
 use Rattle.patr_canon.proofs.Spelled.{block_spelled, nodes_own}
 use Rattle.patr_canon.proofs.tests.printed_again.Goals as goal
 

@@ -1,9 +1,5 @@
 use Rattle.std.proofs.Common.{sym, ap, subst, ◌∙◌}
-use Rattle.patr_model.specs.Structure.{Node}
-use Rattle.patr_arena.specs.Arenas.{shown_of}
-use Rattle.patr_arena.specs.Blocks.{with_block}
-use Rattle.patr_arena.specs.Shown.{Shown}
-use Rattle.patr_canon.specs.Walks.{AreSpelled}
+use Rattle.patr_canon.proofs.Names.{AreSpelled, Node, Shown, shown_of, with_block}
 use Rattle.patr_canon.proofs.Spelled.{block_spelled, nodes_own}
 use Rattle.patr_canon.proofs.tests.sample.Goals as goal
 

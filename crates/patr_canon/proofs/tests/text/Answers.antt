@@ -1,7 +1,5 @@
 use Rattle.std.proofs.Common.{length}
-use Rattle.patr_model.specs.Structure.{Node}
-use Rattle.patr_arena.specs.Arenas.{shown_of}
-use Rattle.patr_arena.specs.Shown.{number_of}
+use Rattle.patr_canon.proofs.Names.{Node, number_of, shown_of}
 use Rattle.patr_canon.proofs.Spelled.{spelled_more}
 use Rattle.patr_canon.proofs.tests.text.Goals as goal
 

@@ -1,13 +1,7 @@
 use Rattle.std.proofs.Common.{ap, ◌∙◌, List}
 use Rattle.std.proofs.lemmas.Result.{IfOk-weaker}
-use Rattle.patr_model.specs.Table.{table_look}
-use Rattle.patr_model.specs.Text.{canonical}
-use Rattle.patr_text.specs.declared.symbols.Id.{Id}
-use Rattle.patr_arena.specs.Paths.{ids}
-use Rattle.patr_arena.specs.Shown.{value_of}
+use Rattle.patr_canon.proofs.Names.{Id, canonical, events_seen, ids, look_of, table_look, value_of}
 use Rattle.patr_arena.proofs.Addresses.{value_below}
-use Rattle.patr_canon.specs.Orders.{look_of}
-use Rattle.patr_canon.specs.Walks.{events_seen}
 use Rattle.patr_canon.proofs.Numbering.{met_numbered, met_once, met_text}
 use Rattle.patr_canon.proofs.text.canonical.Goals as goal
 

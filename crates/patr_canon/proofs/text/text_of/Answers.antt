@@ -1,9 +1,6 @@
 use Rattle.std.proofs.Common.{flat_map, List, ℕ, ap, ◌∙◌}
 use Rattle.std.proofs.lemmas.Result.{IfOk-weaker}
-use Rattle.patr_model.specs.Stack.{event_text}
-use Rattle.patr_canon.specs.Numbers.{number_by}
-use Rattle.patr_canon.specs.Orders.{look_of}
-use Rattle.patr_canon.specs.Walks.{events_seen}
+use Rattle.patr_canon.proofs.Names.{event_text, events_seen, look_of, number_by}
 use Rattle.patr_canon.proofs.text.text_of.Goals as goal
 
 pub returns : goal.returns

@@ -1,7 +1,6 @@
 use Rattle.std.proofs.Common.{ℕ, ◌≡◌, ◌<◌, ◌^◌, ◌++◌, ◌∷◌, [], List, lit<, arith, sym, ap, ◌∙◌, append_assoc}
 use Rattle.std.specs.Fmt.{decimal}
-use Rattle.std.specs.String.{string_bytes}
-use Rattle.patr_model.specs.Text.{numeral}
+use Rattle.patr_canon.proofs.Names.{numeral, string_bytes}
 use Rattle.patr_model.proofs.Bare.{printing}
 use Rattle.patr_canon.proofs.text.write_number.Goals as goal
 

@@ -1,8 +1,5 @@
 use Rattle.std.proofs.Common.{length, ◌∙◌}
-use Rattle.patr_model.specs.Stack.{event_text}
-use Rattle.patr_canon.specs.Numbers.{EventIsNumbered, number_by}
-use Rattle.patr_canon.specs.Orders.{look_of}
-use Rattle.patr_canon.specs.Walks.{EventIsSpelled}
+use Rattle.patr_canon.proofs.Names.{EventIsNumbered, EventIsSpelled, event_text, look_of, number_by}
 use Rattle.patr_canon.proofs.Numbering.{all_at, text_more}
 use Rattle.patr_canon.proofs.text.written.Goals as goal
 

@@ -1,9 +1,5 @@
 use Rattle.std.proofs.Common.{◌≡◌, flat_map, take}
-use Rattle.std.specs.String.{string_bytes}
-use Rattle.patr_model.specs.Stack.{event_text}
-use Rattle.patr_canon.specs.Numbers.{number_by}
-use Rattle.patr_canon.specs.Orders.{look_of}
-use Rattle.patr_canon.specs.Walks.{events_seen}
+use Rattle.patr_canon.proofs.Names.{event_text, events_seen, look_of, number_by, string_bytes}
 use Rattle.patr_canon.proofs.text.written.Given as goal
 
 -- the text of the events so far

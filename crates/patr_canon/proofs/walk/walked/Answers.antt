@@ -1,11 +1,6 @@
 use Rattle.std.proofs.Common.{◌≡◌, ℕ, ◌+◌, ◌-◌, ◌<◌, ◌≤◌, [], List, length, sym, ◌∙◌, subst, arith}
-use Rattle.patr_model.specs.Stack.{events}
-use Rattle.patr_model.specs.Text.{tree_of}
-use Rattle.patr_arena.specs.Shown.{value_of}
+use Rattle.patr_canon.proofs.Names.{IsWalking, Task, events, look_of, tree_of, value_of}
 use Rattle.patr_arena.proofs.Maps.{nothing_waits}
-use Rattle.patr_canon.specs.declared.walk.Task.{Task}
-use Rattle.patr_canon.specs.Orders.{look_of}
-use Rattle.patr_canon.specs.Walks.{IsWalking}
 use Rattle.patr_canon.proofs.Walks.{enter_first, next_ready, set_none, walked_all, walked_part}
 use Rattle.patr_canon.proofs.walk.walked.Goals as goal
 

@@ -1,9 +1,5 @@
 use Rattle.std.proofs.Common.{◌-◌, length}
-use Rattle.patr_model.specs.Stack.{events}
-use Rattle.patr_model.specs.Text.{tree_of}
-use Rattle.patr_arena.specs.Shown.{value_of}
-use Rattle.patr_canon.specs.Orders.{look_of}
-use Rattle.patr_canon.specs.Walks.{IsWalking}
+use Rattle.patr_canon.proofs.Names.{IsWalking, events, look_of, tree_of, value_of}
 use Rattle.patr_canon.proofs.walk.walked.Given as goal
 
 -- what was met, and then what is left, is all of the value

@@ -1,9 +1,5 @@
 use Rattle.std.proofs.Common.{◌∷◌, [], ◌++◌, List, map, take, subst, arith}
-use Rattle.std.proofs.lemmas.List.{take_all}
-use Rattle.patr_model.specs.Renaming.{Each}
-use Rattle.patr_model.specs.Tokens.{Token}
-use Rattle.patr_text.specs.Tokens.{seen}
-use Rattle.patr_grammar.specs.Views.{IsLexeme}
+use Rattle.patr_grammar.proofs.Names.{Each, IsLexeme, Token, seen, take_all}
 use Rattle.patr_grammar.proofs.Bytes.{bytes_more, bytes_within, map_more}
 use Rattle.patr_grammar.proofs.Tables.{each_push, extends_trans, lexemes_still}
 use Rattle.patr_grammar.proofs.numbering.lexemes.Goals as goal

@@ -1,8 +1,5 @@
 use Rattle.std.proofs.Common.{◌+◌, ◌≤◌, length, map, take}
-use Rattle.patr_model.specs.Renaming.{Each}
-use Rattle.patr_text.specs.Texts.{Extends}
-use Rattle.patr_text.specs.Tokens.{seen}
-use Rattle.patr_grammar.specs.Views.{IsLexeme, bytes_of}
+use Rattle.patr_grammar.proofs.Names.{Each, Extends, IsLexeme, bytes_of, seen}
 use Rattle.patr_grammar.proofs.numbering.lexemes.Given as goal
 
 -- the lexemes so far are the tokens so far

@@ -1,6 +1,5 @@
 use Rattle.std.proofs.Common.{◌≡◌, ◌+◌, ◌≤◌, drop}
-use Rattle.patr_model.specs.Tokens.{after, start_place}
-use Rattle.patr_grammar.specs.Views.{place_seen}
+use Rattle.patr_grammar.proofs.Names.{after, place_seen, start_place}
 use Rattle.patr_grammar.proofs.place.end_of.Given as goal
 
 abbrev pub invariant-loop-byte : goal.invariant-loop-byte

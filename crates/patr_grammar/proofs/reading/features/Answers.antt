@@ -1,10 +1,6 @@
 use Rattle.std.proofs.Common.{Err, subst}
-use Rattle.patr_model.specs.Tokens.{after, start_place}
-use Rattle.patr_model.specs.Built.{stage}
-use Rattle.patr_model.specs.Productions.{elements}
-use Rattle.patr_text.specs.declared.fault.Fault.{Fault}
+use Rattle.patr_grammar.proofs.Names.{Fault, Gives, after, by_id, elements, features_view, stage, start_place}
 use Rattle.patr_grammar.specs.declared.reader.Refusal.{Refusal}
-use Rattle.patr_grammar.specs.Views.{by_id, Gives, features_view}
 use Rattle.patr_grammar.proofs.FeatureMeanings.{features_refused}
 use Rattle.patr_grammar.proofs.reading.features.Goals as goal
 

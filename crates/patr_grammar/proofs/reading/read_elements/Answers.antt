@@ -1,8 +1,5 @@
 use Rattle.std.proofs.Common.{List, map, sym, subst}
-use Rattle.patr_model.specs.Renaming.{Each}
-use Rattle.patr_text.specs.Tokens.{seen}
-use Rattle.patr_grammar.specs.declared.lexeme.Lexeme.{Lexeme}
-use Rattle.patr_grammar.specs.Views.{IsLexeme}
+use Rattle.patr_grammar.proofs.Names.{Each, IsLexeme, Lexeme, seen}
 use Rattle.patr_grammar.proofs.FeatureMeanings.{features_answered}
 use Rattle.patr_grammar.proofs.reading.read_elements.Goals as goal
 

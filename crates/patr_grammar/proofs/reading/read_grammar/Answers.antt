@@ -1,19 +1,11 @@
 use Rattle.std.proofs.Common.{◌≡◌, ℕ, ◌≤◌, List, length, map, Ok, IfOk, IfErr, IsUtf8, sym, ap, ◌∙◌, subst, arith}
-use Rattle.std.specs.List.{All}
+use Rattle.patr_grammar.proofs.Names.{All, Each, IfOk-weaker, InOrder, IsLexeme, IsRefusedFor, IsSpelled, Lexeme, StandsFor, length-map, scan, seen, start_place, tokens_of}
 use Rattle.std.specs.Str.{IsValidUpTo}
 use Rattle.std.proofs.Math.Seq.{take-length}
-use Rattle.std.proofs.lemmas.List.{length-map}
-use Rattle.std.proofs.lemmas.Result.{IfOk-weaker}
 use Rattle.std.proofs.lemmas.Str.{IsCharBoundary-start}
 use Rattle.patr_model.proofs.Renaming.{each_length}
 use Rattle.patr_model.specs.Faults.{StopsUtf8}
-use Rattle.patr_model.specs.Renaming.{Each}
-use Rattle.patr_model.specs.Tokens.{scan, start_place, tokens_of}
 use Rattle.patr_text.specs.declared.token.Token.{Token}
-use Rattle.patr_text.specs.Tokens.{InOrder, seen}
-use Rattle.patr_grammar.specs.declared.lexeme.Lexeme.{Lexeme}
-use Rattle.patr_grammar.specs.Reading.{StandsFor, IsRefusedFor}
-use Rattle.patr_grammar.specs.Views.{IsSpelled, IsLexeme}
 use Rattle.patr_grammar.proofs.Meanings.{answered}
 use Rattle.patr_grammar.proofs.Spelled.{spelled_in_order, bytes_within_text, count_in_order}
 use Rattle.patr_grammar.proofs.reading.read_grammar.Goals as goal

@@ -1,9 +1,7 @@
 use Rattle.std.proofs.Common.{◌≡◌, ℕ, List, length, sym, subst, arith}
-use Rattle.std.specs.List.{All}
+use Rattle.patr_grammar.proofs.Names.{All, InOrder, IsCut, IsSpelled}
 use Rattle.std.proofs.lemmas.Str.{IsCharBoundary-start}
 use Rattle.patr_text.specs.declared.token.Token.{Token}
-use Rattle.patr_text.specs.Tokens.{IsCut, InOrder}
-use Rattle.patr_grammar.specs.Views.{IsSpelled}
 use Rattle.patr_grammar.proofs.Spelled.{spelled_in_order, bytes_within_text}
 use Rattle.patr_grammar.proofs.tests.features_of.Goals as goal
 

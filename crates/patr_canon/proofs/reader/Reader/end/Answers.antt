@@ -1,7 +1,5 @@
 use Rattle.std.proofs.Common.{◌++◌, ◌∷◌, [], option_map, sym, ap, ◌∙◌, subst}
-use Rattle.patr_lists.proofs.Results.{if_ok_both}
-use Rattle.patr_canon.specs.Orders.{ArePlaces}
-use Rattle.patr_canon.specs.Readers.{target_seen}
+use Rattle.patr_canon.proofs.Names.{ArePlaces, if_ok_both, target_seen}
 use Rattle.patr_canon.proofs.Reading.{end_is, one_number}
 use Rattle.patr_canon.proofs.reader.Reader.end.Goals as goal
 

@@ -1,7 +1,6 @@
 use Rattle.std.proofs.Common.{◌+◌, ◌≤◌, ℕ, length, arith, sym, subst}
 use Rattle.patr_arena.specs.declared.value.Value.{Value}
-use Rattle.patr_arena.specs.Shown.{ValueIsHeld, value_of}
-use Rattle.patr_canon.specs.Walks.{AreSpelled, HasEntered, IsEntering}
+use Rattle.patr_canon.proofs.Names.{AreSpelled, HasEntered, IsEntering, ValueIsHeld, value_of}
 use Rattle.patr_canon.proofs.Walks.{enter_atom, enter_again, one_longer}
 use Rattle.patr_canon.proofs.walk.Walk.enter.Goals as goal
 

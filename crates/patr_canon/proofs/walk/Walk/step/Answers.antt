@@ -1,6 +1,5 @@
 use Rattle.std.proofs.Common.{ℕ, ◌≤◌, arith, ◌++◌, ◌∷◌, [], length, subst}
-use Rattle.patr_canon.specs.declared.walk.Task.{Task}
-use Rattle.patr_canon.specs.Walks.{IsWalking, TaskIsReady}
+use Rattle.patr_canon.proofs.Names.{IsWalking, Task, TaskIsReady}
 use Rattle.patr_canon.proofs.Walks.{step_close, step_arc, one_longer}
 use Rattle.patr_canon.proofs.walk.Walk.step.Goals as goal
 

@@ -1,10 +1,5 @@
 use Rattle.std.proofs.Common.{◌-◌, List, sym, ap, ◌∙◌, arith, rules, tests}
-use Rattle.patr_model.specs.declared.front.Kind.TheVariants.{Word}
-use Rattle.patr_model.specs.Lexemes.{is_kind, begins}
-use Rattle.patr_model.specs.Parsing.{Stops, PathTooLong}
-use Rattle.patr_model.specs.Productions.{word_list, attributes}
-use Rattle.patr_grammar.specs.declared.lexeme.Lexeme.{Lexeme}
-use Rattle.patr_grammar.specs.Views.{by_id}
+use Rattle.patr_grammar.proofs.Names.{Lexeme, PathTooLong, Stops, Word, attributes, begins, by_id, is_kind, word_list}
 use Rattle.patr_grammar.proofs.Cells.{first, others, cell, shorter_others}
 use Rattle.patr_grammar.proofs.Loops.{onto}
 use Rattle.patr_grammar.proofs.Written.{word_goes_on, word_too_many, words_stop}

@@ -1,6 +1,5 @@
 use Rattle.std.proofs.Common.{◌≡◌, ℕ, ◌≤◌, length}
-use Rattle.patr_model.specs.Productions.{word_list, attributes}
-use Rattle.patr_grammar.specs.Views.{by_id}
+use Rattle.patr_grammar.proofs.Names.{attributes, by_id, word_list}
 use Rattle.patr_grammar.proofs.Loops.{onto}
 use Rattle.patr_grammar.proofs.reader.Reader.attributes.Given as goal
 

@@ -1,10 +1,5 @@
 use Rattle.std.proofs.Common.{◌-◌, ◌∷◌, [], map, length, length-append, sym, ap, arith}
-use Rattle.std.proofs.lemmas.Result.{err_from_is_err_and}
-use Rattle.std.proofs.lemmas.List.{map_push}
-use Rattle.patr_model.specs.Productions.{clauses}
-use Rattle.patr_model.specs.Built.{stage}
-use Rattle.patr_grammar.specs.Reading.{rule_seen}
-use Rattle.patr_grammar.specs.Views.{by_id, rule_view}
+use Rattle.patr_grammar.proofs.Names.{by_id, clauses, err_from_is_err_and, map_push, rule_seen, rule_view, stage}
 use Rattle.patr_grammar.proofs.Cells.{some_left, none_left}
 use Rattle.patr_grammar.proofs.Loops.{clauses_more, clauses_stop, clauses_end}
 use Rattle.patr_grammar.proofs.reader.Reader.clauses.Goals as goal

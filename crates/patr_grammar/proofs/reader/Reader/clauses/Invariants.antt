@@ -1,7 +1,5 @@
 use Rattle.std.proofs.Common.{◌≡◌, ℕ, ◌+◌, ◌≤◌, length, map, []}
-use Rattle.patr_model.specs.Productions.{clauses}
-use Rattle.patr_model.specs.Built.{stage}
-use Rattle.patr_grammar.specs.Views.{by_id, rule_view}
+use Rattle.patr_grammar.proofs.Names.{by_id, clauses, rule_view, stage}
 use Rattle.patr_grammar.proofs.Loops.{clauses_from}
 use Rattle.patr_grammar.proofs.reader.Reader.clauses.Given as goal
 

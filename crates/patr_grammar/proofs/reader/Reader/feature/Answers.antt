@@ -1,9 +1,5 @@
 use Rattle.std.proofs.Common.{sym, ap, ◌∙◌}
-use Rattle.std.proofs.lemmas.Result.{err_from_is_err_and}
-use Rattle.patr_model.specs.Parsing.{Parse, Got, ◌>>=◌}
-use Rattle.patr_model.specs.Productions.{Single, EquationText, Equates}
-use Rattle.patr_text.specs.declared.symbols.Id.{Id}
-use Rattle.patr_grammar.specs.declared.lexeme.Lexeme.{Lexeme}
+use Rattle.patr_grammar.proofs.Names.{Equates, EquationText, Got, Id, Lexeme, Parse, Single, ◌>>=◌, err_from_is_err_and}
 use Rattle.patr_grammar.proofs.Written.{Tokens, feature_choice, feature_name, feature_read, feature_fails}
 use Rattle.patr_grammar.proofs.reader.Reader.feature.Goals as goal
 

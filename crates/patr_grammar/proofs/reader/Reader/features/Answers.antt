@@ -1,9 +1,5 @@
 use Rattle.std.proofs.Common.{◌-◌, map, refl, sym, arith}
-use Rattle.std.proofs.lemmas.Result.{err_from_is_err_and}
-use Rattle.std.proofs.lemmas.List.{map_push}
-use Rattle.patr_model.specs.Productions.{begins_feature}
-use Rattle.patr_grammar.specs.Reading.{feature_seen}
-use Rattle.patr_grammar.specs.Views.{by_id}
+use Rattle.patr_grammar.proofs.Names.{begins_feature, by_id, err_from_is_err_and, feature_seen, map_push}
 use Rattle.patr_grammar.proofs.Loops.{many_more, many_ends}
 use Rattle.patr_grammar.proofs.Written.{one_feature, feature_list, features_fail}
 use Rattle.patr_grammar.proofs.reader.Reader.features.Goals as goal

@@ -1,8 +1,5 @@
 use Rattle.std.proofs.Common.{◌≡◌, ℕ, ◌≤◌, length, map}
-use Rattle.patr_model.specs.Parsing.{star}
-use Rattle.patr_model.specs.Productions.{begins_feature}
-use Rattle.patr_grammar.specs.Reading.{feature_seen}
-use Rattle.patr_grammar.specs.Views.{by_id}
+use Rattle.patr_grammar.proofs.Names.{begins_feature, by_id, feature_seen, star}
 use Rattle.patr_grammar.proofs.Loops.{many_from}
 use Rattle.patr_grammar.proofs.Written.{one_feature}
 use Rattle.patr_grammar.proofs.reader.Reader.features.Given as goal

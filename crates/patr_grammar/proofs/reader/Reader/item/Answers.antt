@@ -1,10 +1,6 @@
 use Rattle.std.proofs.Common.{◌-◌, List, sym, ap, ◌∙◌}
 use Rattle.patr_model.specs.declared.notation.What.TheVariants as what
-use Rattle.patr_model.specs.Parsing.{Got, Stops, Expected, TooManySymbols}
-use Rattle.patr_model.specs.Productions.{Single, SymbolText, symbol_item}
-use Rattle.patr_text.specs.declared.symbols.Id.{Id}
-use Rattle.patr_grammar.specs.declared.lexeme.Lexeme.{Lexeme}
-use Rattle.patr_grammar.specs.Views.{by_id, left_over}
+use Rattle.patr_grammar.proofs.Names.{Expected, Got, Id, Lexeme, Single, Stops, SymbolText, TooManySymbols, by_id, left_over, symbol_item}
 use Rattle.patr_grammar.proofs.Cells.{first, others, cell, no_cell}
 use Rattle.patr_grammar.proofs.Forms.{item_is_symbol, later_paren, later_brace, symbol_read, symbol_too_many, symbol_missing}
 use Rattle.patr_grammar.proofs.reader.Reader.item.Goals as goal

@@ -1,9 +1,6 @@
 use Rattle.std.proofs.Common.{List, sym, ap, ◌∙◌, arith}
 use Rattle.patr_model.specs.declared.notation.What.TheVariants as what
-use Rattle.patr_model.specs.Parsing.{Stops, Expected}
-use Rattle.patr_model.specs.Productions.{name_tokens}
-use Rattle.patr_grammar.specs.declared.lexeme.Lexeme.{Lexeme}
-use Rattle.patr_grammar.specs.Views.{by_id}
+use Rattle.patr_grammar.proofs.Names.{Expected, Lexeme, Stops, by_id, name_tokens}
 use Rattle.patr_grammar.proofs.Cells.{first, others, cell, no_cell, shorter_others}
 use Rattle.patr_grammar.proofs.Forms.{name_goes_on, name_ends, name_stops, name_missing}
 use Rattle.patr_grammar.proofs.Loops.{onto}

@@ -1,6 +1,5 @@
 use Rattle.std.proofs.Common.{◌≡◌, drop}
-use Rattle.patr_model.specs.Productions.{opens_equations}
-use Rattle.patr_grammar.specs.Views.{by_id}
+use Rattle.patr_grammar.proofs.Names.{by_id, opens_equations}
 use Rattle.patr_grammar.proofs.reader.Reader.opens_equations.Given as goal
 
 abbrev pub invariant-loop-lexeme : goal.invariant-loop-lexeme

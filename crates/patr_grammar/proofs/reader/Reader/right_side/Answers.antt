@@ -1,8 +1,5 @@
 use Rattle.std.proofs.Common.{◌-◌, ◌∷◌, [], map, length, length-append, sym, ap, arith}
-use Rattle.std.proofs.lemmas.Result.{err_from_is_err_and}
-use Rattle.std.proofs.lemmas.List.{map_push}
-use Rattle.patr_grammar.specs.Views.{left_over}
-use Rattle.patr_grammar.specs.Reading.{item_seen}
+use Rattle.patr_grammar.proofs.Names.{err_from_is_err_and, item_seen, left_over, map_push}
 use Rattle.patr_grammar.proofs.Loops.{right_stops, right_more, right_ends}
 use Rattle.patr_grammar.proofs.reader.Reader.right_side.Goals as goal
 

@@ -1,6 +1,5 @@
 use Rattle.std.proofs.Common.{◌≡◌, ℕ, ◌+◌, ◌≤◌, length, map}
-use Rattle.patr_grammar.specs.Views.{left_over}
-use Rattle.patr_grammar.specs.Reading.{item_seen}
+use Rattle.patr_grammar.proofs.Names.{item_seen, left_over}
 use Rattle.patr_grammar.proofs.Loops.{so_far, all_items}
 use Rattle.patr_grammar.proofs.reader.Reader.right_side.Given as goal
 

@@ -1,10 +1,5 @@
 use Rattle.std.proofs.Common.{sym, ap, ◌∙◌}
-use Rattle.std.proofs.lemmas.Result.{err_from_is_err_and}
-use Rattle.patr_model.specs.Parsing.{Parse, Got, ◌>>=◌}
-use Rattle.patr_model.specs.Productions.{Single, EquationText}
-use Rattle.patr_text.specs.declared.symbols.Id.{Id}
-use Rattle.patr_grammar.specs.declared.lexeme.Lexeme.{Lexeme}
-use Rattle.patr_grammar.specs.Views.{head_seen}
+use Rattle.patr_grammar.proofs.Names.{EquationText, Got, Id, Lexeme, Parse, Single, ◌>>=◌, err_from_is_err_and, head_seen}
 use Rattle.patr_grammar.proofs.Written.{Tokens, choice_later, equation_read, equation_fails}
 use Rattle.patr_grammar.proofs.reader.Reader.rule_item.Goals as goal
 

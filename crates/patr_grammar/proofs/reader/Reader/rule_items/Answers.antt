@@ -1,9 +1,5 @@
 use Rattle.std.proofs.Common.{◌-◌, map, refl, sym, arith}
-use Rattle.std.proofs.lemmas.Result.{err_from_is_err_and}
-use Rattle.std.proofs.lemmas.List.{map_push}
-use Rattle.patr_model.specs.Productions.{begins_ruleitem}
-use Rattle.patr_grammar.specs.Reading.{element_seen}
-use Rattle.patr_grammar.specs.Views.{by_id, head_seen}
+use Rattle.patr_grammar.proofs.Names.{begins_ruleitem, by_id, element_seen, err_from_is_err_and, head_seen, map_push}
 use Rattle.patr_grammar.proofs.Loops.{many_more}
 use Rattle.patr_grammar.proofs.Written.{rule_item, item_list, items_fail, items_end}
 use Rattle.patr_grammar.proofs.reader.Reader.rule_items.Goals as goal

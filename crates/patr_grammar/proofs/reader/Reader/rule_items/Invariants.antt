@@ -1,8 +1,5 @@
 use Rattle.std.proofs.Common.{◌≡◌, ℕ, ◌≤◌, length, map}
-use Rattle.patr_model.specs.Parsing.{star}
-use Rattle.patr_model.specs.Productions.{begins_ruleitem}
-use Rattle.patr_grammar.specs.Reading.{element_seen}
-use Rattle.patr_grammar.specs.Views.{by_id, head_seen}
+use Rattle.patr_grammar.proofs.Names.{begins_ruleitem, by_id, element_seen, head_seen, star}
 use Rattle.patr_grammar.proofs.Loops.{many_from}
 use Rattle.patr_grammar.proofs.Written.{rule_item}
 use Rattle.patr_grammar.proofs.reader.Reader.rule_items.Given as goal
