@@ -1,21 +1,10 @@
 -- Where pieces stand in a text, and the places of its bytes.
 use Rattle.std.proofs.Common.{◌≡◌, ◌≢◌, ℕ, suc, ◌+◌, ◌<◌, ◌≤◌, Bool, true, false, cond, nat_eq, List, [], ◌∷◌, ◌++◌, length, get_or, take, drop, Option, None, Some, Bor, refl, sym, ap, ◌∙◌, subst, arith, append_assoc, inl, inr, length-append, length-take, length-drop}
-use Rattle.std.specs.Str.{IsCharBoundary, IsUtf8}
-use Rattle.std.specs.List.{All}
-use Rattle.std.proofs.Math.Seq.{take-add}
-use Rattle.std.proofs.lemmas.Bool.{ne_eqb, cases_lt}
-use Rattle.std.proofs.lemmas.List.{map-append, get_or-drop, get_or-take, drop-drop, drop-take, take-take, take_at, drop_at, take-append-le}
-use Rattle.std.proofs.lemmas.List.Elements.{All-nil, All-push, All-weaker}
-use Rattle.std.proofs.lemmas.Str.{IsCharBoundary-start, IsCharBoundary-end, IsCharBoundary-before_ascii, IsCharBoundary-after_ascii, IsCharBoundary-from_rest}
-use Rattle.patr_model.specs.Tokens.{Place, step, after, start_place}
+use Rattle.patr_lexicon.proofs.Names.{IsCharBoundary, IsUtf8, All, take-add, ne_eqb, cases_lt, map-append, get_or-drop, get_or-take, drop-drop, drop-take, take-take, take_at, drop_at, take-append-le, All-nil, All-push, All-weaker, IsCharBoundary-start, IsCharBoundary-end, IsCharBoundary-before_ascii, IsCharBoundary-after_ascii, IsCharBoundary-from_rest, Place, step, after, start_place, piece_end, end_of, place_at, NoLf, rest_text, piece_seen, pieces_seen, StandsAt, end_byte, EndsBy, AreLaid, AreLaidBefore, IsLaidBefore}
 use Rattle.patr_model.specs.LexiconLines.{Piece, behind, line_at}
-use Rattle.patr_model.specs.LexiconText.{piece_end, end_of}
 use Rattle.patr_lexicon.specs.declared.line.Piece as code_piece
 use Rattle.patr_lexicon.specs.declared.features.Features as code_features
 use Rattle.patr_lexicon.specs.declared.record.Record as code_record
-use Rattle.patr_lexicon.specs.Reading.{place_at}
-use Rattle.patr_lexicon.specs.Parts.{NoLf, rest_text, piece_seen, pieces_seen}
-use Rattle.patr_lexicon.specs.Laid.{StandsAt, end_byte, EndsBy, AreLaid, AreLaidBefore, IsLaidBefore}
 
 -- ---- places
 

@@ -1,20 +1,14 @@
 -- Features do not depend on where their tokens start.
 use Rattle.std.proofs.Common.{◌≡◌, ℕ, List, [], ◌∷◌, map, Option, Some, None, Ok, Err, refl, sym, ap, ◌∙◌, subst}
 use Rattle.patr_model.specs.Grammar.{Row, Rows, Done, One, OneOf, Optional, None', Or}
-use Rattle.patr_model.specs.Renaming.{Each, Both, SameRow, SameRows'}
-use Rattle.patr_model.specs.Tokens.{Place, Token}
-use Rattle.patr_model.specs.Lexemes.{by_text, key_of, without_index}
+use Rattle.patr_lexicon.proofs.Names.{Each, Both, SameRow, SameRows', Place, Token, by_text, key_of, without_index, Item, PathText, TermText, AtomText, OfPath, EquationText, FeatureText, Equates, Names, begins_feature, feature, elements, BadFeatures, as_features, SamePathText, SameTermText, SameEquationText, SameFeatureText, SameRefusal, WordsAgree, anywhere}
 use Rattle.patr_model.specs.Bytes.{same_text}
 use Rattle.patr_model.specs.Parsing.{Refusal, Expected, NotAConstituent, TwiceNamed, PathTooLong, TooManySymbols, TooManyPaths, TooDeep, LaterForm, Parse, Got, Stops, ◌>>=◌, star}
 use Rattle.patr_model.specs.Stages.{Stage}
-use Rattle.patr_model.specs.Productions.{Item, PathText, TermText, AtomText, OfPath, EquationText, FeatureText, Equates, Names, begins_feature, feature, elements}
 use Rattle.patr_model.specs.GrammarText.{place_of}
-use Rattle.patr_model.specs.LexiconText.{BadFeatures, as_features}
-use Rattle.patr_model.specs.Agreeing.{SamePathText, SameTermText, SameEquationText, SameFeatureText, SameRefusal, WordsAgree}
 use Rattle.patr_model.proofs.SameParses.{SameItem, row_agrees, SameParse, SameReads, got, stops, bind_agrees, star_agrees}
 use Rattle.patr_model.proofs.SameProductions.{begins_feature_agrees, feature_agrees}
 use Rattle.patr_grammar.proofs.Features.{closed, elements_is}
-use Rattle.patr_lexicon.specs.Cut.{anywhere}
 
 -- ---- what has equal parts is equal
 

@@ -2,9 +2,7 @@
 use Rattle.std.proofs.Common.{◌≡◌, ℕ, zero, suc, ◌+◌, ◌-◌, List, [], ◌∷◌, map, Ok, Err, refl}
 use Rattle.patr_model.specs.declared.front.Front.{Front}
 use Rattle.patr_model.specs.declared.front.Front.TheVariants.{Blank, Piece, Control}
-use Rattle.patr_model.specs.Tokens.{Place, Token, Scanned, front, step, with_token, read_front, scan}
-use Rattle.patr_model.specs.LexiconText.{scanned_tokens}
-use Rattle.patr_lexicon.specs.Cut.{anywhere}
+use Rattle.patr_lexicon.proofs.Names.{Place, Token, Scanned, front, step, with_token, read_front, scan, scanned_tokens, anywhere}
 
 -- what a scan gives, wherever the tokens start
 abbrev pub scanned_anywhere : Scanned → Scanned

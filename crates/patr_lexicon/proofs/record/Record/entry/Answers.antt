@@ -1,7 +1,5 @@
 use Rattle.std.proofs.Common.{refl}
-use Rattle.patr_model.specs.LexiconText.{EntryText, gloss_of}
-use Rattle.patr_grammar.proofs.Tables.{extends_trans}
-use Rattle.patr_lexicon.specs.Parts.{record_seen}
+use Rattle.patr_lexicon.proofs.Names.{EntryText, gloss_of, extends_trans, record_seen}
 use Rattle.patr_lexicon.proofs.Grown.{held_text, entry_held}
 use Rattle.patr_lexicon.proofs.States.{closed_good}
 use Rattle.patr_lexicon.proofs.record.Record.entry.Goals as goal
