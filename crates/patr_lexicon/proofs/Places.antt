@@ -37,27 +37,16 @@ no_lf_front bs k h = λ i lt.
     subst (λ b. b ≢ 10) (sym (get_or-take k bs i 0 few)) (h i within)
 
 -- no line and no column is past the bytes that stand before
-step_line : (p : Place) (b : ℕ) → (step p b).line ≤ p.line + 1
-step_line p b = by (nat_eq b 10)
+step_within : (p : Place) (b : ℕ) → 1 ≤ p.column → ((step p b).line ≤ p.line + 1) × (1 ≤ (step p b).column) × ((step p b).column ≤ p.column + 1)
+step_within p b one = by (nat_eq b 10)
   where
-    by : (t : Bool) → (cond t (place_at (p.line + 1) 1) (place_at p.line (p.column + 1))).line ≤ p.line + 1
-    by true = omega arith
-    by false = omega arith
+    by : (t : Bool) → (let q : Place = cond t (place_at (p.line + 1) 1) (place_at p.line (p.column + 1)) in (q.line ≤ p.line + 1) × (1 ≤ q.column) × (q.column ≤ p.column + 1))
+    by true = (omega arith, omega arith, omega arith)
+    by false = (omega arith, omega arith, omega arith)
 
-step_column : (p : Place) (b : ℕ) → 1 ≤ p.column → (1 ≤ (step p b).column) × ((step p b).column ≤ p.column + 1)
-step_column p b one = by (nat_eq b 10)
-  where
-    by : (t : Bool) → (1 ≤ (cond t (place_at (p.line + 1) 1) (place_at p.line (p.column + 1))).column) × ((cond t (place_at (p.line + 1) 1) (place_at p.line (p.column + 1))).column ≤ p.column + 1)
-    by true = (omega arith, omega arith)
-    by false = (omega arith, omega arith)
-
-line_within : (p : Place) (bs : List ℕ) → (after p bs).line ≤ p.line + length bs
-line_within p [] = omega arith
-line_within p (b ∷ bs) = omega (arith, line_within (step p b) bs, step_line p b)
-
-column_within : (p : Place) (bs : List ℕ) → 1 ≤ p.column → (after p bs).column ≤ p.column + length bs
-column_within p [] one = omega arith
-column_within p (b ∷ bs) one = let s = step_column p b one in omega (arith, column_within (step p b) bs s.0, s.1)
+after_within : (p : Place) (bs : List ℕ) → 1 ≤ p.column → ((after p bs).line ≤ p.line + length bs) × ((after p bs).column ≤ p.column + length bs)
+after_within p [] one = (omega arith, omega arith)
+after_within p (b ∷ bs) one = let s = step_within p b one in let h = after_within (step p b) bs s.1 in (omega (arith, h.0, s.0), omega (arith, h.1, s.2))
 
 -- ---- where a text may be cut
 
@@ -87,10 +76,10 @@ cut_front text i end cut le within = (
 
 module _ (text : List ℕ) (start : ℕ) (p : Piece) (h : StandsAt text start p) where
   pub line_bound : p.place.line + length p.text ≤ 1 + length text
-  line_bound = omega (arith, ap (λ (q : Place). q.line) (h.places 0 (omega arith)), line_within start_place (take (start + 0) text), length-take (start + 0) text, h.ends.0)
+  line_bound = omega (arith, ap (λ (q : Place). q.line) (h.places 0 (omega arith)), (after_within start_place (take (start + 0) text) (omega arith)).0, length-take (start + 0) text, h.ends.0)
 
   pub column_bound : p.place.column + length p.text ≤ 1 + length text
-  column_bound = omega (arith, ap (λ (q : Place). q.column) (h.places 0 (omega arith)), column_within start_place (take (start + 0) text) (omega arith), length-take (start + 0) text, h.ends.0)
+  column_bound = omega (arith, ap (λ (q : Place). q.column) (h.places 0 (omega arith)), (after_within start_place (take (start + 0) text) (omega arith)).1, length-take (start + 0) text, h.ends.0)
 
   -- behind so many bytes
   pub stands_behind : (n : ℕ) → IsCharBoundary p.text n → StandsAt text (start + n) (behind n p)

@@ -24,9 +24,8 @@ one_kept table old new r e t items is numbers = record { more = e ∷ []; texts 
 
 entries_two : (table : List (List ℕ)) (xs : List code.Entry) (ys : List EntryText) (us : List code.Entry) (vs : List EntryText) → AreEntriesOf table xs ys → AreEntriesOf table us vs → AreEntriesOf table (xs ++ us) (ys ++ vs)
 entries_two table [] [] us vs h k = k
-entries_two table [] (y ∷ ys) us vs h k = absurd h
-entries_two table (x ∷ xs) [] us vs h k = absurd h
 entries_two table (x ∷ xs) (y ∷ ys) us vs h k = (h.0, entries_two table xs ys us vs h.1 k)
+entries_two table _ _ us vs h k = absurd h
 
 -- ---- entries, and what is read behind them
 
