@@ -1,26 +1,14 @@
 -- The tokens of pieces, cut from a text, and the features that they stand for.
 use Rattle.std.proofs.Common.{◌≡◌, ℕ, ◌+◌, ◌-◌, ◌<◌, List, [], ◌∷◌, ◌++◌, length, get_or, map, take, drop, Ok, Err, refl, sym, ap, ◌∙◌, subst, arith, append-nil, flat_map}
-use Rattle.std.specs.List.{All}
-use Rattle.std.proofs.lemmas.Grind.{flat_map-append}
-use Rattle.std.proofs.lemmas.List.{map-append, map_more}
-use Rattle.std.proofs.lemmas.List.Elements.{All-nil, All-append}
-use Rattle.patr_model.specs.Tokens.{Place, after, start_place, scan}
-use Rattle.patr_model.specs.Lexemes.{by_text}
-use Rattle.patr_model.specs.Productions.{elements}
+use Rattle.patr_lexicon.proofs.Names.{All, flat_map-append, map-append, map_more, All-nil, All-append, Place, after, start_place, scan, by_text, elements, piece_tokens, end_of, as_features, features_of, stage, piece_seen, pieces_seen, bytes_in, StandsAt, AreLaid, anywhere, AreCutFrom}
 use Rattle.patr_model.specs.LexiconLines.{Piece}
-use Rattle.patr_model.specs.LexiconText.{piece_tokens, end_of, as_features, features_of}
-use Rattle.patr_model.specs.Built.{stage}
 use Rattle.patr_text.specs.declared.token.Token as code
 use Rattle.patr_text.specs.Tokens.{seen, IsCut, InOrder}
 use Rattle.patr_grammar.specs.Views.{IsSpelled, bytes_of}
 use Rattle.patr_grammar.specs.Features.{features_in}
 use Rattle.patr_grammar.proofs.Spelled.{spelled_in_order, bytes_in_order}
 use Rattle.patr_lexicon.specs.declared.line.Piece as code_piece
-use Rattle.patr_lexicon.specs.Parts.{piece_seen, pieces_seen}
-use Rattle.patr_lexicon.specs.Records.{bytes_in}
 use Rattle.patr_lexicon.specs.declared.features.Features as code_features
-use Rattle.patr_lexicon.specs.Laid.{StandsAt, AreLaid}
-use Rattle.patr_lexicon.specs.Cut.{anywhere, AreCutFrom}
 use Rattle.patr_lexicon.proofs.Scans.{scanned_anywhere, scan_anywhere, tokens_anywhere}
 use Rattle.patr_lexicon.proofs.SameFeatures.{features_alike}
 

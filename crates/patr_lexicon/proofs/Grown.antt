@@ -1,14 +1,9 @@
 -- Entries that were read stay what was read while the table grows.
 use Rattle.std.proofs.Common.{◌≡◌, ℕ, List, map, sym, subst}
-use Rattle.patr_model.specs.LexiconText.{EntryOf, EntryText}
-use Rattle.patr_model.specs.Agreeing.{SameFeatureText, SameEntryText}
-use Rattle.patr_model.specs.Renaming.{Both, SameRow}
-use Rattle.patr_text.specs.Texts.{with_text, Extends}
+use Rattle.patr_lexicon.proofs.Names.{EntryOf, EntryText, SameFeatureText, SameEntryText, Both, SameRow, with_text, Extends, extends_with, extends_trans, each_still, text_still, IsEntryOf, AreEntriesOf}
 use Rattle.patr_text.specs.declared.symbols.Id.{Id}
 use Rattle.patr_grammar.specs.Reading.{IsText, features_seen}
-use Rattle.patr_grammar.proofs.Tables.{extends_with, extends_trans, each_still, text_still}
 use Rattle.patr_grammar.proofs.Grown.{both_still, feature_still, row_still}
-use Rattle.patr_lexicon.specs.Reading.{IsEntryOf, AreEntriesOf}
 use Rattle.patr_lexicon.specs.Seen.{entry_seen}
 use Rattle.patr_lexicon.specs.declared.lexicon.Entry as code
 

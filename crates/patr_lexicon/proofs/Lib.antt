@@ -1,5 +1,6 @@
 pub mod Cuts
 pub mod Grown
+pub mod Names
 pub mod Places
 pub mod Scans
 pub mod SameFeatures

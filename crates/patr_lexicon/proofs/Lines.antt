@@ -1,14 +1,8 @@
 -- The lines of a lexicon, cut one by one from the front.
 use Rattle.std.proofs.Common.{◌≡◌, ℕ, suc, ◌+◌, ◌<◌, ◌≤◌, List, [], ◌∷◌, ◌++◌, length, get_or, drop, Bool, true, false, cond, ◌&&◌, nat_eq, Option, Some, None, refl, sym, ap, ◌∙◌, arith, length-append, drop-cons, add-one}
 use Rattle.std.proofs.Math.ListN.{drop_of_length-le}
-use Rattle.std.specs.Str.{IsCharBoundary}
-use Rattle.std.proofs.lemmas.Bool.{ne_eqb}
+use Rattle.patr_lexicon.proofs.Names.{IsCharBoundary, ne_eqb, Place, is_control, is_edge, control, NoLf, place_at, Cut, cut_at, pieces}
 use Rattle.std.proofs.lemmas.Bool.Decides.{nat_tests}
-use Rattle.patr_model.specs.Tokens.{Place, is_control}
-use Rattle.patr_model.specs.LexiconLines.{is_edge, control}
-use Rattle.patr_lexicon.specs.Parts.{NoLf}
-use Rattle.patr_lexicon.specs.Reading.{place_at}
-use Rattle.patr_model.specs.Session.{Cut, cut_at, pieces}
 
 no_first : (b : ℕ) (bs : List ℕ) → NoLf (b ∷ bs) → nat_eq 10 b ≡ false
 no_first b bs h = ne_eqb 10 b (λ e. h 0 (omega arith) (sym e))

@@ -1,10 +1,9 @@
 -- The numbers of entries by their words, entry by entry.
 use Rattle.std.proofs.Common.{◌≡◌, ℕ, ◌+◌, ◌<◌, Bool, true, false, cond, nat_eq, List, [], ◌∷◌, ◌++◌, length, take, get_or, refl, sym, ap, ◌∙◌, arith, append-nil}
-use Rattle.std.proofs.lemmas.List.{length-take-le, take_more}
+use Rattle.patr_lexicon.proofs.Names.{length-take-le, take_more, is_of}
 use Rattle.patr_lists.proofs.Tables.{places_append}
 use Rattle.patr_lists.specs.Numbers.{places}
 use Rattle.patr_lexicon.specs.declared.lexicon.Entry.{Entry}
-use Rattle.patr_lexicon.specs.Entries.{is_of}
 
 -- with one more member
 pub places_more : {X : Type 0} (test : X → Bool) (xs : List X) (n : ℕ) (d : X) → n < length xs

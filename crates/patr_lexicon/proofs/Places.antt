@@ -1,21 +1,10 @@
 -- Where pieces stand in a text, and the places of its bytes.
 use Rattle.std.proofs.Common.{◌≡◌, ◌≢◌, ℕ, suc, ◌+◌, ◌<◌, ◌≤◌, Bool, true, false, cond, nat_eq, List, [], ◌∷◌, ◌++◌, length, get_or, take, drop, Option, None, Some, Bor, refl, sym, ap, ◌∙◌, subst, arith, append_assoc, inl, inr, length-append, length-take, length-drop}
-use Rattle.std.specs.Str.{IsCharBoundary, IsUtf8}
-use Rattle.std.specs.List.{All}
-use Rattle.std.proofs.Math.Seq.{take-add}
-use Rattle.std.proofs.lemmas.Bool.{ne_eqb, cases_lt}
-use Rattle.std.proofs.lemmas.List.{map-append, get_or-drop, get_or-take, drop-drop, drop-take, take-take, take_at, drop_at, take-append-le}
-use Rattle.std.proofs.lemmas.List.Elements.{All-nil, All-push, All-weaker}
-use Rattle.std.proofs.lemmas.Str.{IsCharBoundary-start, IsCharBoundary-end, IsCharBoundary-before_ascii, IsCharBoundary-after_ascii, IsCharBoundary-from_rest}
-use Rattle.patr_model.specs.Tokens.{Place, step, after, start_place}
+use Rattle.patr_lexicon.proofs.Names.{IsCharBoundary, IsUtf8, All, take-add, ne_eqb, cases_lt, map-append, get_or-drop, get_or-take, drop-drop, drop-take, take-take, take_at, drop_at, take-append-le, All-nil, All-push, All-weaker, IsCharBoundary-start, IsCharBoundary-end, IsCharBoundary-before_ascii, IsCharBoundary-after_ascii, IsCharBoundary-from_rest, Place, step, after, start_place, piece_end, end_of, place_at, NoLf, rest_text, piece_seen, pieces_seen, StandsAt, end_byte, EndsBy, AreLaid, AreLaidBefore, IsLaidBefore}
 use Rattle.patr_model.specs.LexiconLines.{Piece, behind, line_at}
-use Rattle.patr_model.specs.LexiconText.{piece_end, end_of}
 use Rattle.patr_lexicon.specs.declared.line.Piece as code_piece
 use Rattle.patr_lexicon.specs.declared.features.Features as code_features
 use Rattle.patr_lexicon.specs.declared.record.Record as code_record
-use Rattle.patr_lexicon.specs.Reading.{place_at}
-use Rattle.patr_lexicon.specs.Parts.{NoLf, rest_text, piece_seen, pieces_seen}
-use Rattle.patr_lexicon.specs.Laid.{StandsAt, end_byte, EndsBy, AreLaid, AreLaidBefore, IsLaidBefore}
 
 -- ---- places
 
@@ -48,27 +37,16 @@ no_lf_front bs k h = λ i lt.
     subst (λ b. b ≢ 10) (sym (get_or-take k bs i 0 few)) (h i within)
 
 -- no line and no column is past the bytes that stand before
-step_line : (p : Place) (b : ℕ) → (step p b).line ≤ p.line + 1
-step_line p b = by (nat_eq b 10)
+step_within : (p : Place) (b : ℕ) → 1 ≤ p.column → ((step p b).line ≤ p.line + 1) × (1 ≤ (step p b).column) × ((step p b).column ≤ p.column + 1)
+step_within p b one = by (nat_eq b 10)
   where
-    by : (t : Bool) → (cond t (place_at (p.line + 1) 1) (place_at p.line (p.column + 1))).line ≤ p.line + 1
-    by true = omega arith
-    by false = omega arith
+    by : (t : Bool) → (let q : Place = cond t (place_at (p.line + 1) 1) (place_at p.line (p.column + 1)) in (q.line ≤ p.line + 1) × (1 ≤ q.column) × (q.column ≤ p.column + 1))
+    by true = (omega arith, omega arith, omega arith)
+    by false = (omega arith, omega arith, omega arith)
 
-step_column : (p : Place) (b : ℕ) → 1 ≤ p.column → (1 ≤ (step p b).column) × ((step p b).column ≤ p.column + 1)
-step_column p b one = by (nat_eq b 10)
-  where
-    by : (t : Bool) → (1 ≤ (cond t (place_at (p.line + 1) 1) (place_at p.line (p.column + 1))).column) × ((cond t (place_at (p.line + 1) 1) (place_at p.line (p.column + 1))).column ≤ p.column + 1)
-    by true = (omega arith, omega arith)
-    by false = (omega arith, omega arith)
-
-line_within : (p : Place) (bs : List ℕ) → (after p bs).line ≤ p.line + length bs
-line_within p [] = omega arith
-line_within p (b ∷ bs) = omega (arith, line_within (step p b) bs, step_line p b)
-
-column_within : (p : Place) (bs : List ℕ) → 1 ≤ p.column → (after p bs).column ≤ p.column + length bs
-column_within p [] one = omega arith
-column_within p (b ∷ bs) one = let s = step_column p b one in omega (arith, column_within (step p b) bs s.0, s.1)
+after_within : (p : Place) (bs : List ℕ) → 1 ≤ p.column → ((after p bs).line ≤ p.line + length bs) × ((after p bs).column ≤ p.column + length bs)
+after_within p [] one = (omega arith, omega arith)
+after_within p (b ∷ bs) one = let s = step_within p b one in let h = after_within (step p b) bs s.1 in (omega (arith, h.0, s.0), omega (arith, h.1, s.2))
 
 -- ---- where a text may be cut
 
@@ -98,10 +76,10 @@ cut_front text i end cut le within = (
 
 module _ (text : List ℕ) (start : ℕ) (p : Piece) (h : StandsAt text start p) where
   pub line_bound : p.place.line + length p.text ≤ 1 + length text
-  line_bound = omega (arith, ap (λ (q : Place). q.line) (h.places 0 (omega arith)), line_within start_place (take (start + 0) text), length-take (start + 0) text, h.ends.0)
+  line_bound = omega (arith, ap (λ (q : Place). q.line) (h.places 0 (omega arith)), (after_within start_place (take (start + 0) text) (omega arith)).0, length-take (start + 0) text, h.ends.0)
 
   pub column_bound : p.place.column + length p.text ≤ 1 + length text
-  column_bound = omega (arith, ap (λ (q : Place). q.column) (h.places 0 (omega arith)), column_within start_place (take (start + 0) text) (omega arith), length-take (start + 0) text, h.ends.0)
+  column_bound = omega (arith, ap (λ (q : Place). q.column) (h.places 0 (omega arith)), (after_within start_place (take (start + 0) text) (omega arith)).1, length-take (start + 0) text, h.ends.0)
 
   -- behind so many bytes
   pub stands_behind : (n : ℕ) → IsCharBoundary p.text n → StandsAt text (start + n) (behind n p)

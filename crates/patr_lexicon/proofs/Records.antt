@@ -1,13 +1,7 @@
 -- A record while it is read: what it becomes does not depend on how far it is read.
 use Rattle.std.proofs.Common.{◌≡◌, ℕ, Bool, false, cond, List, [], ◌∷◌, ◌++◌, flat_map, Option, Some, None, Result, Ok, refl, sym, ap, ◌∙◌, append-nil, append_assoc, length, arith}
-use Rattle.std.proofs.lemmas.Grind.{flat_map-append}
-use Rattle.patr_model.specs.declared.field.Marker.{Marker}
+use Rattle.patr_lexicon.proofs.Names.{flat_map-append, Marker, without_empty, words_of, between_tabs, Row, FeatureText, stage}
 use Rattle.patr_model.specs.declared.field.Marker.TheVariants as marker
-use Rattle.patr_model.specs.Session.{without_empty, words_of}
-use Rattle.patr_lexicon.specs.Split.{between_tabs}
-use Rattle.patr_model.specs.Grammar.{Row}
-use Rattle.patr_model.specs.Productions.{FeatureText}
-use Rattle.patr_model.specs.Built.{stage}
 use Rattle.patr_model.specs.LexiconLines.{Piece, Field}
 use Rattle.patr_model.specs.LexiconText as lexicon
 use Rattle.patr_model.specs.LexiconText.{EntryFault, EntryText, ◌>>=◌, trimmed, spaced, field_text, text_of, gloss_of, is_category, is_features, is_gloss, or_field, last_field, entry, features_of}

@@ -1,34 +1,26 @@
 -- Features do not depend on where their tokens start.
 use Rattle.std.proofs.Common.{◌≡◌, ℕ, List, [], ◌∷◌, map, Option, Some, None, Ok, Err, refl, sym, ap, ◌∙◌, subst}
 use Rattle.patr_model.specs.Grammar.{Row, Rows, Done, One, OneOf, Optional, None', Or}
-use Rattle.patr_model.specs.Renaming.{Each, Both, SameRow, SameRows'}
-use Rattle.patr_model.specs.Tokens.{Place, Token}
-use Rattle.patr_model.specs.Lexemes.{by_text, key_of, without_index}
+use Rattle.patr_lexicon.proofs.Names.{Each, Both, SameRow, SameRows', Place, Token, by_text, key_of, without_index, Item, PathText, TermText, AtomText, OfPath, EquationText, FeatureText, Equates, Names, begins_feature, feature, elements, BadFeatures, as_features, SamePathText, SameTermText, SameEquationText, SameFeatureText, SameRefusal, WordsAgree, anywhere}
 use Rattle.patr_model.specs.Bytes.{same_text}
 use Rattle.patr_model.specs.Parsing.{Refusal, Expected, NotAConstituent, TwiceNamed, PathTooLong, TooManySymbols, TooManyPaths, TooDeep, LaterForm, Parse, Got, Stops, ◌>>=◌, star}
 use Rattle.patr_model.specs.Stages.{Stage}
-use Rattle.patr_model.specs.Productions.{Item, PathText, TermText, AtomText, OfPath, EquationText, FeatureText, Equates, Names, begins_feature, feature, elements}
 use Rattle.patr_model.specs.GrammarText.{place_of}
-use Rattle.patr_model.specs.LexiconText.{BadFeatures, as_features}
-use Rattle.patr_model.specs.Agreeing.{SamePathText, SameTermText, SameEquationText, SameFeatureText, SameRefusal, WordsAgree}
 use Rattle.patr_model.proofs.SameParses.{SameItem, row_agrees, SameParse, SameReads, got, stops, bind_agrees, star_agrees}
 use Rattle.patr_model.proofs.SameProductions.{begins_feature_agrees, feature_agrees}
 use Rattle.patr_grammar.proofs.Features.{closed, elements_is}
-use Rattle.patr_lexicon.specs.Cut.{anywhere}
 
 -- ---- what has equal parts is equal
 
 each_is : {X : Type 0} (B : X → X → Type 0) → ((x y : X) → B x y → x ≡ y) → (xs ys : List X) → Each B xs ys → xs ≡ ys
 each_is B f [] [] h = refl
-each_is B f [] (y ∷ ys) h = absurd h
-each_is B f (x ∷ xs) [] h = absurd h
 each_is B f (x ∷ xs) (y ∷ ys) h = ap (λ z. z ∷ xs) (f x y h.0) ∙ ap (λ zs. y ∷ zs) (each_is B f xs ys h.1)
+each_is B f _ _ h = absurd h
 
 both_is : {X : Type 0} (a b : Option X) → Both (λ x y. x ≡ y) a b → a ≡ b
 both_is None None h = refl
-both_is None (Some y) h = absurd h
-both_is (Some x) None h = absurd h
 both_is (Some x) (Some y) h = ap (λ z. Some z) h
+both_is _ _ h = absurd h
 
 mutual
   row_is : {X : Type 0} (B : X → X → Type 0) → ((x y : X) → B x y → x ≡ y) → (r s : Row X) → SameRow B r s → r ≡ s
@@ -52,18 +44,16 @@ module _ {W : Type 0} where
 
   term_is : (t u : TermText W) → SameTermText Same t u → t ≡ u
   term_is (AtomText a) (AtomText b) h = ap (λ z. AtomText z) h
-  term_is (AtomText a) (OfPath q) h = absurd h
-  term_is (OfPath p) (AtomText b) h = absurd h
   term_is (OfPath p) (OfPath q) h = ap (λ z. OfPath z) (path_is p q h)
+  term_is _ _ h = absurd h
 
   equation_is : (e f : EquationText W) → SameEquationText Same e f → e ≡ f
   equation_is e f h = ap (λ p. record { left = p; right = e.right }) (path_is e.left f.left h.left) ∙ ap (λ t. record { left = f.left; right = t }) (term_is e.right f.right h.right)
 
   feature_is : (x y : FeatureText W) → SameFeatureText Same x y → x ≡ y
   feature_is (Equates e) (Equates f) h = ap (λ z. Equates z) (equation_is e f h)
-  feature_is (Equates e) (Names b q) h = absurd h
-  feature_is (Names a p) (Equates f) h = absurd h
   feature_is (Names a p) (Names b q) h = ap (λ z. Names z p) h.0 ∙ ap (Names b) h.1
+  feature_is _ _ h = absurd h
 
   refusal_is : (r s : Refusal W) → SameRefusal Same r s → r ≡ s
   refusal_is (Expected a) (Expected b) h = ap (λ z. Expected z) h
@@ -83,9 +73,8 @@ Alike t u = anywhere t ≡ anywhere u
 
 are_alike : (ts us : List Token) → map anywhere ts ≡ map anywhere us → Each Alike ts us
 are_alike [] [] e = tt
-are_alike [] (u ∷ us) e = absurd cc
-are_alike (t ∷ ts) [] e = absurd cc
 are_alike (t ∷ ts) (u ∷ us) e = (cc, are_alike ts us cc)
+are_alike _ _ e = absurd cc
 
 words_alike : WordsAgree Alike Same by_text by_text
 words_alike = record {
@@ -101,9 +90,8 @@ module _ (s : Stage) where
   closed_alike : (xs ys : List (Item (FeatureText (List ℕ)))) → Each (SameItem (SameFeatureText Same)) xs ys
       → SameReads Alike Same (SameRow (SameFeatureText Same)) (closed by_text s xs) (closed by_text s ys)
   closed_alike xs ys b [] [] e = got (row_agrees (SameFeatureText Same) xs ys b) tt
-  closed_alike xs ys b [] (u ∷ us) e = absurd e
-  closed_alike xs ys b (t ∷ ts) [] e = absurd e
   closed_alike xs ys b (t ∷ ts) (u ∷ us) e = stops refl e
+  closed_alike xs ys b _ _ e = absurd e
 
   elements_alike : SameReads Alike Same (SameRow (SameFeatureText Same)) (elements by_text s) (elements by_text s)
   elements_alike ts us e =
@@ -116,15 +104,13 @@ module _ (s : Stage) where
 
   place_alike : (end : Place) (ts us : List Token) → Each Alike ts us → place_of end ts ≡ place_of end us
   place_alike end [] [] h = refl
-  place_alike end [] (u ∷ us) h = absurd h
-  place_alike end (t ∷ ts) [] h = absurd h
   place_alike end (t ∷ ts) (u ∷ us) h = ap (λ (t : Token). t.place) h.0
+  place_alike end _ _ h = absurd h
 
   read_alike : (end : Place) (p q : Features) → SameParse Alike Same (Each Alike) (SameRow (SameFeatureText Same)) p q → as_features end p ≡ as_features end q
   read_alike end (Got x ts) (Got y us) h = ap (λ z. Ok z) (row_is (SameFeatureText Same) feature_is x y h.together.0)
-  read_alike end (Got x ts) (Stops r us) h = absurd h.together
-  read_alike end (Stops r ts) (Got y us) h = absurd h.together
   read_alike end (Stops r ts) (Stops r' us) h = ap (λ z. Err (BadFeatures z (place_of end ts))) (refusal_is r r' h.together.0) ∙ ap (λ z. Err (BadFeatures r' z)) (place_alike end ts us h.together.1)
+  read_alike end _ _ h = absurd h.together
 
   -- the features that tokens stand for, wherever these start
   pub features_alike : (end : Place) (ts us : List Token) → map anywhere ts ≡ map anywhere us → as_features end (elements by_text s ts) ≡ as_features end (elements by_text s us)

@@ -2,9 +2,7 @@
 use Rattle.std.proofs.Common.{◌≡◌, ℕ, zero, suc, ◌+◌, ◌-◌, List, [], ◌∷◌, map, Ok, Err, refl}
 use Rattle.patr_model.specs.declared.front.Front.{Front}
 use Rattle.patr_model.specs.declared.front.Front.TheVariants.{Blank, Piece, Control}
-use Rattle.patr_model.specs.Tokens.{Place, Token, Scanned, front, step, with_token, read_front, scan}
-use Rattle.patr_model.specs.LexiconText.{scanned_tokens}
-use Rattle.patr_lexicon.specs.Cut.{anywhere}
+use Rattle.patr_lexicon.proofs.Names.{Place, Token, Scanned, front, step, with_token, read_front, scan, scanned_tokens, anywhere}
 
 -- what a scan gives, wherever the tokens start
 abbrev pub scanned_anywhere : Scanned → Scanned
@@ -13,9 +11,8 @@ scanned_anywhere (Err p) = Err p
 
 token_anywhere : (t u : Token) (r s : Scanned) → anywhere t ≡ anywhere u → scanned_anywhere r ≡ scanned_anywhere s → scanned_anywhere (with_token t r) ≡ scanned_anywhere (with_token u s)
 token_anywhere t u (Ok ts) (Ok us) e f = cc
-token_anywhere t u (Ok ts) (Err p) e f = absurd cc
-token_anywhere t u (Err p) (Ok us) e f = absurd cc
 token_anywhere t u (Err p) (Err q) e f = f
+token_anywhere t u _ _ e f = absurd cc
 
 pub scan_anywhere : (skip at at' : ℕ) (p : Place) (bs : List ℕ) → scanned_anywhere (scan skip at p bs) ≡ scanned_anywhere (scan skip at' p bs)
 unfolding scan
@@ -33,6 +30,5 @@ scan_anywhere zero at at' p (b ∷ bs) = by (front (b ∷ bs)) (λ n. scan_anywh
 -- the tokens of two scans that give the same
 pub tokens_anywhere : (r s : Scanned) → scanned_anywhere r ≡ scanned_anywhere s → map anywhere (scanned_tokens r) ≡ map anywhere (scanned_tokens s)
 tokens_anywhere (Ok ts) (Ok us) e = cc
-tokens_anywhere (Ok ts) (Err p) e = absurd cc
-tokens_anywhere (Err p) (Ok us) e = absurd cc
 tokens_anywhere (Err p) (Err q) e = refl
+tokens_anywhere _ _ e = absurd cc

@@ -1,9 +1,7 @@
 -- The words and the text of pieces of a field, piece by piece.
 use Rattle.std.proofs.Common.{◌≡◌, ℕ, Bool, true, false, cond, List, [], ◌∷◌, ◌++◌, refl, sym, ap, ◌∙◌, append_assoc, append-nil}
-use Rattle.patr_model.specs.Session.{Cut, cut_at, pieces, without_empty, is_blank, words_of}
-use Rattle.patr_model.specs.LexiconText.{trimmed, spaced}
+use Rattle.patr_lexicon.proofs.Names.{Cut, cut_at, pieces, without_empty, is_blank, words_of, trimmed, spaced, words_in, text_in}
 use Rattle.patr_model.specs.LexiconLines.{Piece}
-use Rattle.patr_lexicon.specs.Records.{words_in, text_in}
 
 pub without_append : (xs ys : List (List ℕ)) → without_empty (xs ++ ys) ≡ without_empty xs ++ without_empty ys
 without_append [] ys = refl

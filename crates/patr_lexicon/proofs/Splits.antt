@@ -1,9 +1,6 @@
 -- The words of a line, by its parts between spaces and theirs between tabs.
 use Rattle.std.proofs.Common.{◌≡◌, ℕ, Bool, true, false, cond, ◌||◌, nat_eq, List, [], ◌∷◌, ◌++◌, length, flat_map, refl, sym, ap, ◌∙◌, arith, append_assoc, append-nil}
-use Rattle.std.specs.List.{slice_split, onto_first}
-use Rattle.std.proofs.lemmas.Grind.{flat_map-append}
-use Rattle.patr_model.specs.Session.{Cut, cut_at, pieces, without_empty, is_blank, words_of}
-use Rattle.patr_lexicon.specs.Split.{between_tabs}
+use Rattle.patr_lexicon.proofs.Names.{slice_split, onto_first, flat_map-append, Cut, cut_at, pieces, without_empty, is_blank, words_of, between_tabs}
 use Rattle.patr_lexicon.proofs.Spaced.{without_append}
 
 -- the pieces are the parts of a split

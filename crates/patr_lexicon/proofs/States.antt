@@ -1,19 +1,12 @@
 -- Lines in front of what is left of a lexicon.
 use Rattle.std.proofs.Common.{◌≡◌, ℕ, ◌+◌, ◌≤◌, List, [], ◌∷◌, ◌++◌, length, Result, Ok, Err, ◌⊎◌, inl, inr, Bor, refl, ap, ◌∙◌, arith}
-use Rattle.patr_model.specs.declared.field.Marker.{Marker}
+use Rattle.patr_lexicon.proofs.Names.{Marker, Row, FeatureText, stage, State, Start, Skipped, Within, words_seen, record_seen, goes_on, ended_before, record_of, known_records, then_rest, from_record, some_words, some_text, most_texts}
 use Rattle.patr_model.specs.declared.field.Marker.TheVariants as marker
 use Rattle.patr_model.specs.LexiconLines.{Piece, Fields}
-use Rattle.patr_model.specs.Grammar.{Row}
-use Rattle.patr_model.specs.Productions.{FeatureText}
 use Rattle.patr_model.specs.LexiconText.{EntryText, EntryFault, NoWord, SeveralWords, NoCategory, ◌>>=◌, gloss_of, features_of, entries, read_fields}
-use Rattle.patr_model.specs.Built.{stage}
 use Rattle.patr_lexicon.specs.Records.{Words, Empty, One, Several, Open, bytes_in, opened, with_field, with_pieces, with_fields, one_word, one_category, closed}
 use Rattle.patr_lexicon.specs.declared.words.Words as code_words
 use Rattle.patr_lexicon.specs.declared.words.Words.TheVariants as count
-use Rattle.patr_lexicon.specs.declared.state.State.{State}
-use Rattle.patr_lexicon.specs.declared.state.State.TheVariants.{Start, Skipped, Within}
-use Rattle.patr_lexicon.specs.Parts.{words_seen, record_seen}
-use Rattle.patr_lexicon.specs.States.{goes_on, ended_before, record_of, known_records, then_rest, from_record, some_words, some_text, most_texts}
 use Rattle.patr_lexicon.proofs.Records.{no_pieces, one_piece, a_field, category_begins, gloss_begins, features_begin, no_fields, entry_is}
 
 -- a line of text

@@ -1,23 +1,13 @@
 -- The reading of a lexicon, line by line.
 use Rattle.std.proofs.Common.{◌≡◌, ℕ, suc, ◌+◌, ◌≤◌, List, [], ◌∷◌, ◌++◌, length, nat_eq, Option, Some, None, Result, Ok, Err, Bor, refl, sym, ap, ◌∙◌, subst, arith, length-append, append-nil}
-use Rattle.patr_model.specs.Session.{pieces}
-use Rattle.patr_model.specs.LexiconLines.{Fields, kind, line_at, line_before, numbered, lines, fields_of}
-use Rattle.patr_model.specs.LexiconText.{EntryText, EntryFault, read_fields}
-use Rattle.patr_model.specs.Built.{stage}
-use Rattle.patr_text.specs.Texts.{Extends}
+use Rattle.patr_lexicon.proofs.Names.{pieces, Fields, kind, line_at, line_before, numbered, lines, fields_of, EntryText, EntryFault, read_fields, stage, Extends, State, Start, IsEntryOf, AreEntriesOf, record_seen, rest_lines, rest_len, then_rest, then_more, goes_on, ended_before, record_of, FailsFor, most_texts_of, IsKept, extends_trans}
 use Rattle.patr_text.specs.declared.fault.Fault.{Fault}
 use Rattle.patr_text.specs.declared.fault.Fault.TheVariants.{Memory, Refused}
 use Rattle.patr_lexicon.specs.declared.lexicon.Entry as code
 use Rattle.patr_lexicon.specs.declared.lexicon.LexiconCause.{LexiconCause}
 use Rattle.patr_lexicon.specs.declared.record.Record as code_record
-use Rattle.patr_lexicon.specs.declared.state.State.{State}
-use Rattle.patr_lexicon.specs.declared.state.State.TheVariants.{Start}
-use Rattle.patr_lexicon.specs.Reading.{IsEntryOf, AreEntriesOf}
 use Rattle.patr_lexicon.specs.Records.{closed}
-use Rattle.patr_lexicon.specs.Parts.{record_seen, rest_lines, rest_len}
-use Rattle.patr_lexicon.specs.States.{then_rest, then_more, goes_on, ended_before, record_of, FailsFor, most_texts_of, IsKept}
 use Rattle.patr_lexicon.proofs.States.{ends}
-use Rattle.patr_grammar.proofs.Tables.{extends_trans}
 use Rattle.patr_lexicon.proofs.Grown.{entries_still}
 
 extends_self : (texts : List (List ℕ)) → Extends texts texts
@@ -34,9 +24,8 @@ one_kept table old new r e t items is numbers = record { more = e ∷ []; texts 
 
 entries_two : (table : List (List ℕ)) (xs : List code.Entry) (ys : List EntryText) (us : List code.Entry) (vs : List EntryText) → AreEntriesOf table xs ys → AreEntriesOf table us vs → AreEntriesOf table (xs ++ us) (ys ++ vs)
 entries_two table [] [] us vs h k = k
-entries_two table [] (y ∷ ys) us vs h k = absurd h
-entries_two table (x ∷ xs) [] us vs h k = absurd h
 entries_two table (x ∷ xs) (y ∷ ys) us vs h k = (h.0, entries_two table xs ys us vs h.1 k)
+entries_two table _ _ us vs h k = absurd h
 
 -- ---- entries, and what is read behind them
 

@@ -1,13 +1,7 @@
 -- A text without spaces, tabs and CRs at its ends.
 use Rattle.std.proofs.Common.{◌≡◌, ℕ, suc, ◌+◌, ◌-◌, ◌<◌, ◌≤◌, List, [], ◌∷◌, ◌++◌, length, get_or, take, drop, reverse, Bool, true, false, cond, not, refl, sym, ap, ◌∙◌, subst, arith, length-drop}
-use Rattle.std.specs.List.{prefix_len, suffix_len}
-use Rattle.std.specs.Str.{IsUtf8, IsCharBoundary}
-use Rattle.std.proofs.Math.Seq.{drop-append_seam}
-use Rattle.std.proofs.lemmas.List.{take-append-drop, reverse-append, reverse-reverse, length-reverse, get_or-reverse}
+use Rattle.patr_lexicon.proofs.Names.{prefix_len, suffix_len, IsUtf8, IsCharBoundary, drop-append_seam, take-append-drop, reverse-append, reverse-reverse, length-reverse, get_or-reverse, IsCharBoundary-after_ascii, is_edge, begins_with, trimmed, trimmed_front}
 use Rattle.std.proofs.lemmas.List.Sums.{prefix_len-le-length, prefix_len_passes, prefix_len_stops}
-use Rattle.std.proofs.lemmas.Str.{IsCharBoundary-after_ascii}
-use Rattle.patr_model.specs.LexiconLines.{is_edge, begins_with}
-use Rattle.patr_model.specs.LexiconText.{trimmed, trimmed_front}
 use Rattle.patr_lexicon.proofs.Lines.{edge_is_ascii, edge_is_boundary}
 
 -- what stands behind the edges at the front begins where a character does

@@ -1,18 +1,14 @@
 -- Words of the command line, one after another.
 use Rattle.std.proofs.Common.{◌≡◌, ℕ, ◌+◌, ◌<◌, ◌≤◌, List, [], ◌∷◌, map, drop, length, get_or, Option, Some, None, refl, sym, ap, ◌∙◌, append_assoc, append-nil, arith}
 use Rattle.std.specs.Prelude.{option_map, option_and_then, codes, false}
-use Rattle.std.proofs.lemmas.List.{drop_more, length-map, get_or-map}
+use Rattle.patr_shell.proofs.Names.{drop_more, length-map, get_or-map, same_text, Setup, same_is, flag_seen, other_kind, said_seen, said_then, said_in_all}
 use Rattle.std.proofs.lemmas.Bool.{false_from_ne_true}
 use Rattle.std.proofs.Math.ListN.{drop_of_length-le}
 use Rattle.patr_model.specs.CommandLine.{Flag, Workers, Limit, WordKind, Said, only, with_value, with_name, word_kind, by_kind, said, value_or, named, setup_of}
-use Rattle.patr_model.specs.Bytes.{same_text}
-use Rattle.patr_model.specs.Run.{Setup}
-use Rattle.patr_model.proofs.Canonical.{same_is}
 use Rattle.patr_shell.specs.declared.command_line.Flag.{Flag as OptionRead}
 use Rattle.patr_shell.specs.declared.command_line.NextWord.{NextWord}
 use Rattle.patr_shell.specs.declared.command_line.NextWord.TheVariants.{Any, Value, Name}
 use Rattle.patr_shell.specs.declared.command_line.Said.{Said as SaidRead}
-use Rattle.patr_shell.specs.Words.{flag_seen, other_kind, said_seen, said_then, said_in_all}
 
 -- what words say, by what the first is
 pub said_word : (w : List ℕ) (ws : List (List ℕ)) (k : WordKind) → k ≡ word_kind w → said None (w ∷ ws) ≡ by_kind k w ws (λ o. said o ws)

@@ -1,35 +1,18 @@
 -- Where the words, the files and the input are as they should be and no device fails, a run is done, or memory was short.
 use Rattle.std.proofs.Common.{◌≡◌, ◌⊎◌, ◌≤◌, ◌<◌, ◌^◌, ℕ, List, [], ◌∷◌, Option, Some, None, IfSome, Bool, true, false, true≢false, length, take, refl, sym, ◌∙◌, ap, subst, inl, inr, arith}
-use Rattle.std.specs.Bool.{OnTrue}
-use Rattle.std.specs.Option.{IsSomeAnd}
-use Rattle.std.specs.FinMap.{get}
-use Rattle.patr_io.specs.Causes.{Rose, HasCause}
-use Rattle.patr_io.specs.Files.{Files, IsAbsent}
-use Rattle.patr_model.specs.Solved.{solved}
+use Rattle.patr_shell.proofs.Names.{OnTrue, IsSomeAnd, get, Rose, HasCause, Files, IsAbsent, solved, Setup, Session, IsOpening, IsOut, IsSession, Follows, first_state, BuildFault, InGrammar, InLexicon, build_fault, lines_with_commands, stage, built, some_inj, one_grammar, no_grammar_fault, one_lexicon, no_lexicon_fault, fault_of, cause_seen, Status, Refusal, HasQuit, Names, Builds, HasBadGrammar, HasBadLexicon, HaveSession, LooksAt, grammar, lexicon, CannotLoad, IsStatusOf, IsSessionStatus, IsEndOf, status_of, HasWritten, Writes, IsWithin, MayBeDone}
 use Rattle.patr_model.specs.Session.{Numbering, Grounds, State, Replied, whole_lines_of}
 use Rattle.patr_model.specs.Run as run
-use Rattle.patr_model.specs.Run.{Setup, Session, IsOpening, IsOut, IsSession, Follows, first_state}
 use Rattle.patr_model.specs.GrammarText.{ReadsGrammar, grammar_fault_line}
 use Rattle.patr_model.specs.LexiconText.{ReadsLexicon, lexicon_fault_line}
 use Rattle.patr_model.specs.Build as model
-use Rattle.patr_model.specs.Build.{BuildFault, InGrammar, InLexicon, build_fault}
-use Rattle.patr_model.specs.Notations.{lines_with_commands}
-use Rattle.patr_model.specs.Built.{stage, built}
-use Rattle.patr_model.proofs.Maps.{some_inj}
-use Rattle.patr_model.proofs.OneRun.{one_grammar, no_grammar_fault, one_lexicon, no_lexicon_fault}
-use Rattle.patr_grammar.specs.Reading.{fault_of}
 use Rattle.patr_lexicon.specs.Reading.{fault_of as lexicon_fault_of}
-use Rattle.patr_expand.specs.Seen.{cause_seen}
 use Rattle.patr_shell.specs.declared.status.GrammarTrouble.{GrammarTrouble}
 use Rattle.patr_shell.specs.declared.status.GrammarTrouble.TheVariants as grammar_trouble
 use Rattle.patr_shell.specs.declared.status.LexiconTrouble.{LexiconTrouble}
 use Rattle.patr_shell.specs.declared.status.LexiconTrouble.TheVariants as lexicon_trouble
-use Rattle.patr_shell.specs.declared.status.Status.{Status}
 use Rattle.patr_shell.specs.declared.status.Status.TheVariants.{Done, BadWords, BadGrammar, BadLexicon, ReadFault, WriteFault, Memory, InputTooLong}
-use Rattle.patr_shell.specs.declared.refusal.Refusal.{Refusal}
 use Rattle.patr_shell.specs.declared.refusal.Refusal.TheVariants as refusal
-use Rattle.patr_shell.specs.Answering.{HasQuit}
-use Rattle.patr_shell.specs.Outcome.{Names, Builds, HasBadGrammar, HasBadLexicon, HaveSession, LooksAt, grammar, lexicon, CannotLoad, IsStatusOf, IsSessionStatus, IsEndOf, status_of, HasWritten, Writes, IsWithin, MayBeDone}
 use Rattle.patr_shell.proofs.RunLaws.{one_opening, numbered_tables}
 
 -- a file is no longer than it may be
@@ -134,15 +117,13 @@ module _ (words : List (List ℕ)) (files : Option Files) (left : Option (List �
       → IfSome files (λ f. IfSome left (λ input. Writes words f input status a b)) → (status ≡ Done) ⊎ (status ≡ Memory)
   done_or_memory a b Done is read write whole = inl refl
   done_or_memory a b Memory is read write whole = inr refl
-  done_or_memory a b BadWords is read write whole = cc
-  done_or_memory a b (BadGrammar trouble) is read write whole = cc
-  done_or_memory a b (BadLexicon trouble) is read write whole = cc
   done_or_memory a b ReadFault is read write whole = absurd (read refl)
   done_or_memory a b WriteFault is read write whole = absurd (write refl)
   done_or_memory a b InputTooLong is read write whole =
       let w = subst (λ o. IfSome o (λ f. IfSome left (λ input. Writes words f input InputTooLong a b))) may.told.1 whole in
       let v = subst (λ o. IfSome o (λ input. Writes words may.told.0 input InputTooLong a b)) may.input.1 w in
       absurd (not_too_long words may.told.0 told_session may.input.0 may.input.2 a b v.whole)
+  done_or_memory a b _ is read write whole = cc
 
   -- no read failed where no count rose, since each file that is looked at is there
   pub no_read : (before now : ℕ) (failed : Option (List ℕ)) → (Rose before now → ⊥) → (name : List ℕ) → LooksAt words files name → CannotLoad files before now failed name → ⊥

@@ -1,7 +1,6 @@
 -- How lines are cut where the bytes come in pieces.
 use Rattle.std.proofs.Common.{◌≡◌, ℕ, zero, suc, take, nat_eq, eqb-true, List, [], ◌∷◌, ◌++◌, true, false, cond, refl, sym, ◌∙◌, ap, subst, append-nil, append_assoc}
-use Rattle.patr_model.specs.Session.{Cut, cut_at, without_cr, whole_lines_from, whole_lines_of, lines_by, lines_of}
-use Rattle.patr_shell.specs.Answering.{last_of, last_piece, last_line, HasNoFeed}
+use Rattle.patr_shell.proofs.Names.{Cut, cut_at, without_cr, whole_lines_from, whole_lines_of, lines_by, lines_of, last_of, last_piece, last_line, HasNoFeed}
 
 abbrev pub cut : List ℕ → Cut
 cut bytes = cut_at (nat_eq 10) bytes

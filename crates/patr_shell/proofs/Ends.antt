@@ -1,12 +1,9 @@
 -- The ends of lines, and how much of a line matters.
 use Rattle.std.proofs.Common.{◌≡◌, ◌≤◌, ◌<◌, ◌-◌, ◌+◌, ℕ, suc, nat_eq, eqb, List, [], ◌∷◌, ◌++◌, Bool, true, false, cond, length, take, drop, get_or, refl, sym, ◌∙◌, ap, subst, arith, append-nil, take-append-drop, Some, None, not, ltb, leb, min, add-one, drop-cons, length-drop}
-use Rattle.std.proofs.lemmas.List.{length-take-le, take_all, take_at, take-append-le}
+use Rattle.patr_shell.proofs.Names.{length-take-le, take_all, take_at, take-append-le, nat_tests, without_cr, HasNoFeed}
 use Rattle.std.proofs.Math.Seq.{take-append-add}
-use Rattle.std.proofs.lemmas.Bool.Decides.{nat_tests}
 use Rattle.std.proofs.lemmas.List.Quantifiers.{position-Some}
 use Rattle.std.specs.List.{position, position_or_len}
-use Rattle.patr_model.specs.Session.{without_cr}
-use Rattle.patr_shell.specs.Answering.{HasNoFeed}
 use Rattle.patr_shell.proofs.Cuts.{free_onto}
 
 -- a CR at the end is the last byte

@@ -1,11 +1,6 @@
 -- A text is sent piece by piece.
-use Rattle.std.specs.Result.{OnErr, IfErr}
+use Rattle.patr_shell.proofs.Names.{OnErr, IfErr, Appends, Keeps, Appends-nil, Appends-trans, Appends-kept, IsSent, AppendsFront, HasReached, AnswerFault}
 use Rattle.std.proofs.Common.{◌≡◌, ℕ, List, [], ◌++◌, Result, Ok, Err, Option, take, drop, refl, sym, ◌∙◌, ap, append_assoc, append-nil, take-append-drop}
-use Rattle.std.specs.Io.KnownBytes.{Appends, Keeps}
-use Rattle.std.proofs.KnownBytes.{Appends-nil, Appends-trans, Appends-kept}
-use Rattle.patr_shell.specs.Sent.{IsSent, AppendsFront}
-use Rattle.patr_shell.specs.Answering.{HasReached}
-use Rattle.patr_shell.specs.declared.session.AnswerFault.{AnswerFault}
 use Rattle.patr_shell.specs.declared.session.AnswerFault.TheVariants.{Write, Memory}
 
 pub sent_none : (a : Option (List ℕ)) (text : List ℕ) → IsSent a a text text

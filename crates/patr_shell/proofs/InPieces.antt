@@ -1,10 +1,7 @@
 -- Where a session stands within a piece of the input.
 use Rattle.std.proofs.Common.{◌≡◌, ◌≤◌, ℕ, List, [], ◌∷◌, ◌++◌, Option, length, take, refl, sym, ◌∙◌, ap, subst, arith, append-nil, append_assoc}
-use Rattle.patr_model.specs.Session.{without_cr, whole_lines_of}
-use Rattle.patr_shell.specs.Spoken.{Spoken}
-use Rattle.patr_shell.specs.Answering.{HasNoFeed, last_piece, HasAnswered, HasEnded, HasBegun}
+use Rattle.patr_shell.proofs.Names.{without_cr, whole_lines_of, Spoken, HasNoFeed, last_piece, HasAnswered, HasEnded, HasBegun, AnswerFault}
 use Rattle.patr_shell.specs.declared.state.State.{State}
-use Rattle.patr_shell.specs.declared.session.AnswerFault.{AnswerFault}
 use Rattle.patr_shell.proofs.Cuts.{line_ended, piece_ended, free_two, lines_of_free, piece_of_free}
 use Rattle.patr_shell.proofs.Ends.{take_once}
 use Rattle.patr_shell.proofs.Replying.{answered_none, answered_behind, answered_same, ended_behind, ended_longer, ended_same, begun_same, begun_behind, begun_longer, begun_of_answered}

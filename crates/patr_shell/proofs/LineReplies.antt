@@ -1,20 +1,13 @@
 -- What a line comes to, by what it is.
 use Rattle.std.proofs.Common.{◌≡◌, ℕ, ◌<◌, Bool, true, false, true≢false, cond, nat_eq, List, [], ◌∷◌, Option, Some, None, length, get_or, refl, sym, ap, ◌∙◌, subst, arith, eqb-true, eq-eqb, MatchBool, Bor, map, codes}
-use Rattle.std.specs.Bool.{Decides}
+use Rattle.patr_shell.proofs.Names.{Decides, same_text, solved, lines_with_commands, session_command, some_inj, Spoken, grounds, state_seen, command_seen, AreQuit, IsAnswerToCommand, IsAnswerToWords, Reply}
 use Rattle.std.specs.Option.{option_map, option_and_then}
 use Rattle.std.specs.String.{string_bytes}
 use Rattle.patr_shell.proofs.CommandLine.{not_same}
-use Rattle.patr_model.specs.Bytes.{same_text}
-use Rattle.patr_model.specs.Solved.{solved}
-use Rattle.patr_model.specs.Notations.{lines_with_commands, session_command}
 use Rattle.patr_model.specs.Session.{Numbering, AgreesWith, Grounds, State, Command, Limit, Features, Count, Show, Grammar, Make, Quit, IsSentenceReply, IsWordsReply, IsColonReply, IsCommandReply, begins_with_colon, switch, number_of, line}
-use Rattle.patr_model.proofs.Maps.{some_inj}
-use Rattle.patr_shell.specs.Spoken.{Spoken, grounds, state_seen, command_seen}
-use Rattle.patr_shell.specs.Answering.{AreQuit, IsAnswerToCommand, IsAnswerToWords}
 use Rattle.patr_shell.specs.declared.state.State.{State as CodeState}
 use Rattle.patr_shell.specs.declared.command.Command.{Command as CodeCommand}
 use Rattle.patr_shell.specs.declared.command.Command.TheVariants.{Limit as CodeLimit, Features as CodeFeatures, Count as CodeCount, Quit as CodeQuit}
-use Rattle.patr_shell.specs.declared.answer.Reply.{Reply}
 
 -- whether the first word begins with a colon
 colon_is : (w : List ℕ) (ws : List (List ℕ)) (r : Bool) → Decides r (get_or w 0 0 ≡ 58) → begins_with_colon (w ∷ ws) ≡ r
@@ -147,10 +140,8 @@ first_word (w ∷ ws) x words r are some is d = subst (λ vs. (0 < length vs) ×
 
 -- the command is the one that ends the session
 is_quit : (c : CodeCommand) → command_seen c ≡ Quit → c ≡ CodeQuit
-is_quit (CodeLimit n) e = cc
-is_quit (CodeFeatures b) e = cc
-is_quit (CodeCount b) e = cc
 is_quit CodeQuit e = refl
+is_quit _ e = cc
 
 module _ (spoken : Spoken) (st : CodeState) where
   -- what an answer to words says where it is a reply that leaves the state as it is

@@ -1,24 +1,16 @@
 -- What the grammar and the entries that were read stand for, under a numbering.
 use Rattle.std.proofs.Common.{◌≡◌, ℕ, List, [], ◌∷◌, map, length, codes, Option, Some, None, slice_get, IfSome, refl, sym, ◌∙◌, ap, subst, inr}
-use Rattle.patr_io.specs.Files.{Files}
+use Rattle.patr_shell.proofs.Names.{Files, Numbering, AgreesWith, Setup, first_state, Each, EntryText, BuildFault, InGrammar, InLexicon, build, keys_of, build_fault, IsText, IsGrammar, cause_seen, Stored, keys, number, grammar_of, entries_of, built_rules, rules_of, IsBuiltFrom, Spoken, grounds, state_seen, Names, Builds, IsOpened, HasGrammar, HaveSession, IsFaultOf}
 use Rattle.patr_text.specs.declared.symbols.Id.{Id}
 use Rattle.patr_text.specs.Texts.{first_texts, Extends}
-use Rattle.patr_model.specs.Session.{Numbering, AgreesWith}
 use Rattle.patr_model.specs.Run as run
-use Rattle.patr_model.specs.Run.{Setup, first_state}
-use Rattle.patr_model.specs.Renaming.{Each}
 use Rattle.patr_model.specs.Productions as production
-use Rattle.patr_model.specs.LexiconText.{EntryText}
 use Rattle.patr_model.specs.Build as model
-use Rattle.patr_model.specs.Build.{BuildFault, InGrammar, InLexicon, build, keys_of, build_fault}
 use Rattle.patr_model.proofs.SameBuilds.{same_build, same_fault}
-use Rattle.patr_grammar.specs.Reading.{IsText, IsGrammar}
 use Rattle.patr_grammar.specs.declared.grammar.Grammar.{Grammar}
 use Rattle.patr_grammar.proofs.Grown.{grammar_still}
 use Rattle.patr_lexicon.specs.declared.lexicon.Entry.{Entry}
 use Rattle.patr_lexicon.specs.Reading.{AreEntriesOf}
-use Rattle.patr_expand.specs.Seen.{cause_seen}
-use Rattle.patr_library.specs.Stored.{Stored, keys, number, grammar_of, entries_of, built_rules, rules_of, IsBuiltFrom}
 use Rattle.patr_reply.specs.Held.{AreHeldBy}
 use Rattle.patr_reply.proofs.Reading.{libraries_are_held}
 use Rattle.patr_shell.specs.declared.state.State.{State}
@@ -27,9 +19,7 @@ use Rattle.patr_shell.specs.declared.status.LexiconTrouble.TheVariants as lexico
 use Rattle.patr_shell.specs.declared.refusal.OpeningFault.{OpeningFault}
 use Rattle.patr_shell.specs.declared.refusal.OpeningFault.TheVariants.{Refused, Read, Memory}
 use Rattle.patr_shell.specs.declared.refusal.Refusal.TheVariants as refusal
-use Rattle.patr_shell.specs.Spoken.{Spoken, grounds, state_seen}
 use Rattle.patr_shell.specs.Loaded.{ReadsGrammar, ReadsLexicon, IsBuiltOf, IsBuildFault}
-use Rattle.patr_shell.specs.Outcome.{Names, Builds, IsOpened, HasGrammar, HaveSession, IsFaultOf}
 
 -- ---- by the table and by a numbering
 
@@ -107,16 +97,11 @@ module _ (words : List (List ℕ)) (setup : Setup) (named : Names words setup) (
 
     -- what the build refuses has its cause
     pub build_refused : (fault : OpeningFault) → IsBuildFault grammar entries fault → IsFaultOf words files fault
-    build_refused (Refused refusal.Words) is = cc
-    build_refused (Refused (refusal.Grammar grammar_trouble.TooLong)) is = cc
-    build_refused (Refused (refusal.Grammar (grammar_trouble.Text c))) is = cc
     build_refused (Refused (refusal.Grammar (grammar_trouble.Expand c))) is = (setup, named, builds old table longer files setup grammar entries g l (Some (InGrammar (cause_seen c))) is)
-    build_refused (Refused (refusal.Lexicon lexicon_trouble.TooLong)) is = cc
-    build_refused (Refused (refusal.Lexicon (lexicon_trouble.Text c))) is = cc
     build_refused (Refused (refusal.Lexicon (lexicon_trouble.Expand c))) is =
         (setup, named, has_grammar files setup.grammar old grammar g, builds old table longer files setup grammar entries g l (Some (InLexicon (cause_seen c))) is)
-    build_refused Read is = cc
     build_refused Memory is = tt
+    build_refused _ is = cc
 
   opens : (f : Files) → ReadsGrammar (Some f) setup.grammar old grammar → ReadsLexicon (Some f) setup.lexicon table entries
       → Extends first_texts table → (s : Spoken) → IsBuiltOf table grammar entries s → (st : State) → state_seen st ≡ first_state setup → IsOpened words f s st

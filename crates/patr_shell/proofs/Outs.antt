@@ -1,37 +1,16 @@
 -- What a run writes, by its opening and its session.
 use Rattle.std.proofs.Common.{◌≡◌, ◌<◌, ◌≤◌, arith, ℕ, List, [], ◌∷◌, ◌++◌, Option, Some, None, IfSome, Bool, true, false, length, take, drop, refl, sym, ◌∙◌, ap, subst, inl, inr, append_assoc, append-nil, length-append, take-append-drop}
-use Rattle.std.proofs.lemmas.List.{length-take}
-use Rattle.std.specs.Bool.{OnTrue}
-use Rattle.std.specs.Option.{IsSomeAnd}
-use Rattle.std.specs.FinMap.{get}
-use Rattle.std.specs.Io.KnownBytes.{Appends, Consumes}
-use Rattle.patr_io.specs.Files.{Files}
-use Rattle.patr_model.specs.Solved.{solved}
+use Rattle.patr_shell.proofs.Names.{Setup, Names, BuildFault, fault_ending, length-take, OnTrue, IsSomeAnd, get, Appends, Consumes, Files, solved, Numbering, AgreesWith, Grounds, Replied, whole_lines_of, lines_of, IsTable, InGrammar, InLexicon, build_fault_line, lines_with_commands, Answered, built, lexicon_fault_line, fault_of, cause_seen, Status, Refusal, Spoken, grounds, state_seen, AppendsFront, HasNoFeed, HasWrittenSession, HasBegunSession, is_definite, ending_of, HaveSession, IsSessionStatus, IsStatusOf, status_of, refusal_line, IsOpened, IsEndOf, Builds, HasWritten, HasBegunRun, Writes, HasAnsweredFirst, HasAnsweredTaken, HasRunSession, HasRun}
 use Rattle.patr_model.specs.Session as model
-use Rattle.patr_model.specs.Session.{Numbering, AgreesWith, Grounds, Replied, whole_lines_of, lines_of}
-use Rattle.patr_model.specs.Table.{IsTable}
 use Rattle.patr_model.specs.Run as run
 use Rattle.patr_model.specs.Run.{Opening, Session, Refusal as Refuses, AfterWords, AfterGrammar, IsOpening, IsOut, Follows}
-use Rattle.patr_model.specs.Build.{InGrammar, InLexicon, build_fault_line}
-use Rattle.patr_model.specs.Notations.{lines_with_commands}
-use Rattle.patr_model.specs.Openings.{Answered}
-use Rattle.patr_model.specs.Built.{built}
 use Rattle.patr_model.specs.GrammarText.{grammar_fault_line}
-use Rattle.patr_model.specs.LexiconText.{lexicon_fault_line}
-use Rattle.patr_grammar.specs.Reading.{fault_of}
 use Rattle.patr_lexicon.specs.Reading.{fault_of as lexicon_fault_of}
-use Rattle.patr_expand.specs.Seen.{cause_seen}
 use Rattle.patr_shell.specs.declared.state.State.{State}
-use Rattle.patr_shell.specs.declared.status.Status.{Status}
-use Rattle.patr_shell.specs.declared.status.Status.TheVariants.{Done, BadWords, BadGrammar, BadLexicon, ReadFault, WriteFault, Memory, InputTooLong}
+use Rattle.patr_shell.specs.declared.status.Status.TheVariants.{Done, ReadFault, WriteFault, Memory, InputTooLong}
 use Rattle.patr_shell.specs.declared.status.GrammarTrouble.TheVariants as grammar_trouble
 use Rattle.patr_shell.specs.declared.status.LexiconTrouble.TheVariants as lexicon_trouble
-use Rattle.patr_shell.specs.declared.refusal.Refusal.{Refusal}
 use Rattle.patr_shell.specs.declared.refusal.Refusal.TheVariants.{Words, Grammar, Lexicon}
-use Rattle.patr_shell.specs.Spoken.{Spoken, grounds, state_seen}
-use Rattle.patr_shell.specs.Sent.{AppendsFront}
-use Rattle.patr_shell.specs.Answering.{HasNoFeed, HasWrittenSession, HasBegunSession}
-use Rattle.patr_shell.specs.Outcome.{is_definite, ending_of, HaveSession, IsSessionStatus, IsStatusOf, status_of, refusal_line, IsOpened, IsEndOf, Builds, HasWritten, HasBegunRun, Writes, HasAnsweredFirst, HasAnsweredTaken, HasRunSession, HasRun}
 use Rattle.patr_shell.proofs.Cuts.{FirstLines, first_lines, lines_of_whole}
 use Rattle.patr_shell.proofs.Fronts.{no_front}
 use Rattle.patr_shell.proofs.RunLaws.{one_opening, numbered_tables, any_numbering}
@@ -42,6 +21,15 @@ long_file None most long = absurd long
 long_file (Some bytes) most long = (bytes, refl, long)
 
 module _ (words : List (List ℕ)) (f : Files) where
+  -- what the build refuses
+  refused_build : (N : Numbering) (setup : Setup) → Names words setup → (fault : BuildFault) → Builds (Some f) setup.grammar setup.lexicon (Some fault) → IsOpening built N words (get f) (Refuses (build_fault_line fault) (fault_ending fault))
+  refused_build N setup named fault b = inr (
+    setup,
+    named,
+    AfterWords.read b.grammar_bytes b.rules b.grammar_file b.grammar_short b.reads_grammar
+        (AfterGrammar.refused b.lexicon_bytes b.entries b.lexicon_file b.lexicon_short b.reads_lexicon (build_fault_line fault) (fault_ending fault) (fault, b.is, refl, refl) refl),
+  )
+
   -- a refusal that has its cause is what the words and the files come to
   refused : (N : Numbering) (r : Refusal) → IsStatusOf words (Some f) (status_of r) → IsOpening built N words (get f) (Refuses (refusal_line r) (ending_of (status_of r)))
   refused N Words cause = inl (cause, refl)
@@ -50,15 +38,7 @@ module _ (words : List (List ℕ)) (f : Files) where
       inr (cause.0, cause.1, AfterWords.long file.0 file.1 file.2 refl)
   refused N (Grammar (grammar_trouble.Text why)) cause =
       inr (cause.0, cause.1, AfterWords.fault cause.2.0 cause.2.1 cause.2.2 (grammar_fault_line (fault_of why)) (fault_of why, cause.2.3, refl) refl)
-  refused N (Grammar (grammar_trouble.Expand why)) cause =
-      let b : Builds (Some f) cause.0.grammar cause.0.lexicon (Some (InGrammar (cause_seen why))) = cause.2 in
-      inr (
-        cause.0,
-        cause.1,
-        AfterWords.read b.grammar_bytes b.rules b.grammar_file b.grammar_short b.reads_grammar
-            (AfterGrammar.refused b.lexicon_bytes b.entries b.lexicon_file b.lexicon_short b.reads_lexicon (build_fault_line (InGrammar (cause_seen why))) run.BadGrammar
-            (InGrammar (cause_seen why), b.is, refl, refl) refl),
-      )
+  refused N (Grammar (grammar_trouble.Expand why)) cause = refused_build N cause.0 cause.1 (InGrammar (cause_seen why)) cause.2
   refused N (Lexicon lexicon_trouble.TooLong) cause =
       let file = long_file (get f cause.0.lexicon) 16777216 cause.3 in
       inr (cause.0, cause.1, AfterWords.read cause.2.0 cause.2.1 cause.2.2 cause.2.3 cause.2.4 (AfterGrammar.long file.0 file.1 file.2 refl))
@@ -69,15 +49,7 @@ module _ (words : List (List ℕ)) (f : Files) where
         AfterWords.read cause.2.0 cause.2.1 cause.2.2 cause.2.3 cause.2.4
             (AfterGrammar.fault cause.3.0 cause.3.1 cause.3.2 (lexicon_fault_line (lexicon_fault_of why)) (lexicon_fault_of why, cause.3.3, refl) refl),
       )
-  refused N (Lexicon (lexicon_trouble.Expand why)) cause =
-      let b : Builds (Some f) cause.0.grammar cause.0.lexicon (Some (InLexicon (cause_seen why))) = cause.3 in
-      inr (
-        cause.0,
-        cause.1,
-        AfterWords.read b.grammar_bytes b.rules b.grammar_file b.grammar_short b.reads_grammar
-            (AfterGrammar.refused b.lexicon_bytes b.entries b.lexicon_file b.lexicon_short b.reads_lexicon (build_fault_line (InLexicon (cause_seen why))) run.BadLexicon
-            (InLexicon (cause_seen why), b.is, refl, refl) refl),
-      )
+  refused N (Lexicon (lexicon_trouble.Expand why)) cause = refused_build N cause.0 cause.1 (InLexicon (cause_seen why)) cause.3
 
   refused_whole : (r : Refusal) → IsStatusOf words (Some f) (status_of r) → (input : List ℕ) (a b : Option (List ℕ)) → Appends a b (refusal_line r) → HasWritten words f input (status_of r) a b
   refused_whole r cause input a b sent = record {
@@ -168,13 +140,11 @@ nothing_text words (Some f) (Some input) a status is = record {
 -- a session's status has its cause
 pub session_cause : (words : List (List ℕ)) (files : Option Files) (status : Status) → HaveSession words files → IsSessionStatus status → IsStatusOf words files status
 session_cause words files Done have is = have
-session_cause words files BadWords have is = cc
-session_cause words files (BadGrammar trouble) have is = cc
-session_cause words files (BadLexicon trouble) have is = cc
 session_cause words files ReadFault have is = (have.0, have.1)
 session_cause words files WriteFault have is = tt
 session_cause words files Memory have is = tt
 session_cause words files InputTooLong have is = have
+session_cause words files _ have is = cc
 
 -- lines that were answered, and behind which nothing comes, are replied to up to their end
 replied : (s : Grounds) (st end : model.State) (ls : List (List ℕ)) (text : List ℕ) → Answered solved lines_with_commands s st ls text end → Replied solved lines_with_commands s st ls text false
@@ -228,13 +198,11 @@ module _ (words : List (List ℕ)) (files : Option Files) (left now a b : Option
   pub session_run : (spoken : Spoken) (st : State) → IfSome files (λ f. IsOpened words f spoken st) → IsTable spoken.texts
       → (status : Status) → IsSessionStatus status → HasRunSession spoken st status left now a b → HasRun words files status left now a b
   session_run spoken st opened table Done is h = h
-  session_run spoken st opened table BadWords is h = cc
-  session_run spoken st opened table (BadGrammar trouble) is h = cc
-  session_run spoken st opened table (BadLexicon trouble) is h = cc
   session_run spoken st opened table ReadFault is h = inr (if_opened files (λ f. IsOpened words f spoken st) (λ f. HasAnsweredTaken words f left now a b) (λ f o. all_answered words f spoken st o table left now a b h) opened)
   session_run spoken st opened table WriteFault is h = tt
   session_run spoken st opened table Memory is h = inr (if_opened files (λ f. IsOpened words f spoken st) (λ f. HasAnsweredFirst words f left now a b) (λ f o. some_answered words f spoken st o table left now a b h) opened)
   session_run spoken st opened table InputTooLong is h = h
+  session_run spoken st opened table _ is h = cc
 
 -- a refusal
 module _ (words : List (List ℕ)) (files : Option Files) (left a b : Option (List ℕ)) where

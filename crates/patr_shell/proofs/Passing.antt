@@ -1,16 +1,6 @@
 -- What calls pass on, one behind another.
 use Rattle.std.proofs.Common.{◌≡◌, ◌⊎◌, ℕ, List, [], ◌∷◌, ◌++◌, Option, Some, None, Bool, true, false, Result, Ok, Err, refl, sym, ◌∙◌, ap, subst, inl, inr, append-nil}
-use Rattle.std.specs.Bool.{OnFalse}
-use Rattle.std.specs.Result.{OnOk, is_err}
-use Rattle.std.specs.Io.KnownBytes.{Appends, Keeps}
-use Rattle.std.proofs.KnownBytes.{Appends-nil, Appends-trans, Keeps-trans}
-use Rattle.patr_io.specs.Causes.{IsFlushed}
-use Rattle.patr_shell.specs.Sent.{PassesOn}
-use Rattle.patr_shell.specs.Answering.{is_write_fault}
-use Rattle.patr_shell.specs.Outcome.{ended_by_write, answer_status}
-use Rattle.patr_shell.specs.declared.status.Status.{Status}
-use Rattle.patr_shell.specs.declared.session.Next.{Next}
-use Rattle.patr_shell.specs.declared.session.AnswerFault.{AnswerFault}
+use Rattle.patr_shell.proofs.Names.{OnFalse, OnOk, is_err, Appends, Keeps, Appends-nil, Appends-trans, Keeps-trans, IsFlushed, PassesOn, is_write_fault, ended_by_write, answer_status, Status, Next, AnswerFault}
 use Rattle.patr_shell.specs.declared.session.AnswerFault.TheVariants.{Write, Memory}
 
 unless_failed : (failed : Bool) (P : Type 0) → P → OnFalse failed P

@@ -1,21 +1,10 @@
 -- Replies to lines, one list behind another, and how much of a line its reply depends on.
 use Rattle.std.proofs.Common.{◌≡◌, ◌≤◌, ◌<◌, ℕ, List, [], ◌∷◌, ◌++◌, Option, Some, true, false, length, take, leb, refl, sym, ◌∙◌, ap, subst, arith, append-nil, append_assoc, inl, inr, ◌⊎◌}
-use Rattle.std.proofs.lemmas.Bool.Decides.{nat_tests}
-use Rattle.std.proofs.lemmas.List.{length-take-le, take_all}
+use Rattle.patr_shell.proofs.Names.{nat_tests, length-take-le, take_all, Appends, Keeps, Appends-nil, Appends-trans, Appends-kept, solved, lines_with_commands, Answered, Spoken, grounds, state_seen, AppendsFront, IsAnswer, HasQuit, HasAnswered, HasEnded, HasReached, HasBegun, Reply, AnswerFault}
 use Rattle.std.specs.String.{string_bytes}
-use Rattle.std.specs.Io.KnownBytes.{Appends, Keeps}
-use Rattle.std.proofs.KnownBytes.{Appends-nil, Appends-trans, Appends-kept}
-use Rattle.patr_model.specs.Solved.{solved}
-use Rattle.patr_model.specs.Notations.{lines_with_commands}
 use Rattle.patr_model.specs.Session as session
 use Rattle.patr_model.specs.Session.{Numbering, AgreesWith, Grounds, IsQuit, IsLineReply, too_long, not_text, spelled, Replied, without_cr}
-use Rattle.patr_model.specs.Openings.{Answered}
-use Rattle.patr_shell.specs.Spoken.{Spoken, grounds, state_seen}
-use Rattle.patr_shell.specs.Sent.{AppendsFront}
-use Rattle.patr_shell.specs.Answering.{IsAnswer, HasQuit, HasAnswered, HasEnded, HasReached, HasBegun}
 use Rattle.patr_shell.specs.declared.state.State.{State}
-use Rattle.patr_shell.specs.declared.answer.Reply.{Reply}
-use Rattle.patr_shell.specs.declared.session.AnswerFault.{AnswerFault}
 use Rattle.patr_shell.specs.declared.session.AnswerFault.TheVariants.{Write}
 use Rattle.patr_shell.proofs.Ends.{longer_by_one}
 use Rattle.patr_shell.proofs.Fronts.{reached_none, reached_whole, reached_behind}

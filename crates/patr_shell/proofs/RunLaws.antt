@@ -1,13 +1,6 @@
 -- Laws of the definitions, as they are used here.
-use Rattle.patr_model.specs.Solved.{solved}
-use Rattle.patr_model.specs.Notations.{lines_with_commands}
-use Rattle.patr_model.specs.Built.{stage, built}
-use Rattle.patr_model.specs.Renaming.{IgnoresNumbers}
-use Rattle.patr_model.specs.Openings.{HasOneOpening, SessionRepliesBegin, TablesAreNumbered}
-use Rattle.patr_model.proofs.Canonical.{least_texts}
-use Rattle.patr_model.proofs.Lines.{replies_begin}
+use Rattle.patr_shell.proofs.Names.{solved, lines_with_commands, stage, built, IgnoresNumbers, HasOneOpening, SessionRepliesBegin, TablesAreNumbered, least_texts, replies_begin, stage_openings}
 use Rattle.patr_model.proofs.Numberings.{tables_are_numbered}
-use Rattle.patr_model.proofs.OneRun.{stage_openings}
 use Rattle.patr_model.proofs.RenamedRuns.{stage_same}
 
 pub one_opening : HasOneOpening built

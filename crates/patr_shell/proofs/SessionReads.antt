@@ -1,22 +1,12 @@
 -- A read of a session, and what is answered then.
-use Rattle.std.proofs.Common.{◌≡◌, ◌<◌, ◌≤◌, ◌-◌, ◌+◌, ℕ, List, [], ◌++◌, Option, None, Some, IfSome, length, take, drop, min, refl, sym, ◌∙◌, ap, subst, arith, append_assoc, append-nil, take-append-drop}
-use Rattle.std.proofs.lemmas.List.{length-take-le, take_all}
-use Rattle.std.specs.Io.KnownBytes.{Appends, Keeps, Consumes, IsAtEnd}
-use Rattle.std.proofs.KnownBytes.{Appends-trans, Consumes-trans}
+use Rattle.std.proofs.Common.{◌≡◌, ◌<◌, ◌≤◌, ◌-◌, ◌+◌, ℕ, List, [], ◌++◌, Option, None, Some, IfSome, length, take, drop, min, refl, sym, ◌∙◌, ap, subst, arith, length-append, append_assoc, append-nil, take-append-drop}
+use Rattle.patr_shell.proofs.Names.{length-take-le, take_all, Appends, Keeps, Consumes, IsAtEnd, Appends-trans, Consumes-trans, whole_lines_of, Spoken, AppendsFront, last_piece, last_line, too_long_line, HasQuit, HasAnswered, HasEnded, HasTold, HasBegun, HasTakenQuit, HasWrittenSession, HasBegunSession, answer_status, HasRunSession, Status, AnswerFault, Next}
 use Rattle.patr_lists.proofs.Places.{take_take}
-use Rattle.patr_model.specs.Session.{whole_lines_of}
 use Rattle.patr_model.specs.Run as model
 use Rattle.patr_model.specs.Run.{Ending, Done}
-use Rattle.patr_shell.specs.Spoken.{Spoken}
-use Rattle.patr_shell.specs.Sent.{AppendsFront}
-use Rattle.patr_shell.specs.Answering.{last_piece, last_line, too_long_line, HasQuit, HasAnswered, HasEnded, HasTold, HasBegun, HasTakenQuit, HasWrittenSession, HasBegunSession}
-use Rattle.patr_shell.specs.Outcome.{answer_status, HasRunSession}
 use Rattle.patr_shell.specs.declared.state.State.{State}
-use Rattle.patr_shell.specs.declared.status.Status.{Status}
 use Rattle.patr_shell.specs.declared.status.Status.TheVariants.{Memory, InputTooLong}
-use Rattle.patr_shell.specs.declared.session.AnswerFault.{AnswerFault}
 use Rattle.patr_shell.specs.declared.session.AnswerFault.TheVariants as answer_fault
-use Rattle.patr_shell.specs.declared.session.Next.{Next}
 use Rattle.patr_shell.specs.declared.session.Next.TheVariants.{GoesOn, Ends}
 use Rattle.patr_shell.proofs.Cuts.{lines_of_two}
 use Rattle.patr_shell.proofs.Replying.{quit_longer, answered_kept, begun_of_answered, begun_longer}
@@ -34,41 +24,61 @@ pub faulted : (spoken : Spoken) (st : State) (start now a c : Option (List ℕ))
 faulted spoken st start now a c answer_fault.Write status is short = subst (λ s. HasRunSession spoken st s start now a c) (sym is) tt
 faulted spoken st start now a c answer_fault.Memory status is short = subst (λ s. HasRunSession spoken st s start now a c) (sym is) (short refl)
 
-module _ (spoken : Spoken) (st mid : State) (bytes held : List ℕ) (a b : Option (List ℕ)) (stands : Stands spoken st mid bytes held a b) (start : Option (List ℕ)) (short : length bytes ≤ most) where
+-- the bytes that were read so far, no more than an input may have, and where the session stands behind them
+pub record HasRead (spoken : Spoken) (st mid : State) (held : List ℕ) (taken : ℕ) (start now a b : Option (List ℕ)) : Type 0 where
+  pub bytes : List ℕ
+  pub read : Consumes start now bytes
+  pub long : length bytes ≡ taken
+  pub within : taken ≤ most
+  pub stands : Stands spoken st mid bytes held a b
+
+module _ {spoken : Spoken} {st mid : State} {held : List ℕ} {taken : ℕ} {start before a b : Option (List ℕ)} (so : HasRead spoken st mid held taken start before a b) where
+  abbrev bytes : List ℕ
+  bytes = so.bytes
+
+  abbrev stands : Stands spoken st mid so.bytes held a b
+  stands = so.stands
+
+  short : length so.bytes ≤ most
+  short = omega (arith, so.long, so.within)
+
   -- nothing more is read
-  pub stopped : (now : Option (List ℕ)) → Consumes start now bytes → IfSome start (λ input. HasBegunSession spoken st input a b)
-  stopped now read = told start now bytes (λ input. HasBegunSession spoken st input a b) read
+  pub stopped : IfSome start (λ input. HasBegunSession spoken st input a b)
+  stopped = told start before bytes (λ input. HasBegunSession spoken st input a b) so.read
       (λ rest. let at = within_of bytes rest short in front_within spoken st (bytes ++ rest) bytes at.0 answer_fault.Memory a b (begun_so_far spoken st mid bytes held a b stands answer_fault.Memory) at.1)
 
-  -- memory is short behind them
-  pub short_behind : (now : Option (List ℕ)) → Consumes start now bytes → (c : Option (List ℕ)) → Keeps b c → HasRunSession spoken st Memory start now a c
-  short_behind now read c kept =
-      let answered = answered_kept spoken st mid (whole_lines_of bytes) a b c stands.answered kept in (
-        bytes,
-        read,
-        subst (λ l. HasBegun spoken st (whole_lines_of l) answer_fault.Memory a c) (sym (take_all most bytes short)) (begun_of_answered spoken st mid (whole_lines_of bytes) answer_fault.Memory a c answered),
-      )
+  -- nothing more comes
+  module _ (now : Option (List ℕ)) (none : Consumes before now []) where
+    read_all : Consumes start now bytes
+    read_all = subst (Consumes start now) (append-nil bytes) (Consumes-trans start before now bytes [] so.read none)
 
-  -- the input is at its end
-  module _ (now : Option (List ℕ)) (read : Consumes start now bytes) (end : IsAtEnd now) (c : Option (List ℕ)) where
-    pub ended_whole : (goes : Next) (next : State) → HasTold spoken mid (last_line held) goes next b c → IfSome start (λ input. HasWrittenSession spoken st input Done a c)
-    ended_whole GoesOn next answered = told_all start now bytes (λ input. HasWrittenSession spoken st input Done a c) read end
-        (written_whole spoken st next bytes a c short (stands_end spoken st mid bytes held a b stands c next answered))
-    ended_whole Ends next stops = told_all start now bytes (λ input. HasWrittenSession spoken st input Done a c) read end
-        (written_ended spoken st bytes a c short (ended_end spoken st mid bytes held a b stands c stops))
+    -- memory is short behind it
+    pub short_behind : (c : Option (List ℕ)) → Keeps b c → HasRunSession spoken st Memory start now a c
+    short_behind c kept =
+        let answered = answered_kept spoken st mid (whole_lines_of bytes) a b c stands.answered kept in
+        (bytes, read_all, subst (λ l. HasBegun spoken st (whole_lines_of l) answer_fault.Memory a c) (sym (take_all most bytes short)) (begun_of_answered spoken st mid (whole_lines_of bytes) answer_fault.Memory a c answered))
 
-    pub ended_front : (fault : AnswerFault) → HasBegun spoken mid (last_line held) fault b c → IfSome start (λ input. HasBegunSession spoken st input a c)
-    ended_front fault begun = told_all start now bytes (λ input. HasBegunSession spoken st input a c) read end
-        (front_whole spoken st bytes fault a c short (begun_end spoken st mid bytes held a b stands c fault begun))
+    module _ (end : IsAtEnd now) (c : Option (List ℕ)) where
+      pub ended_whole : (goes : Next) (next : State) → HasTold spoken mid (last_line held) goes next b c → IfSome start (λ input. HasWrittenSession spoken st input Done a c)
+      ended_whole GoesOn next answered = told_all start now bytes (λ input. HasWrittenSession spoken st input Done a c) read_all end
+          (written_whole spoken st next bytes a c short (stands_end spoken st mid bytes held a b stands c next answered))
+      ended_whole Ends next stops = told_all start now bytes (λ input. HasWrittenSession spoken st input Done a c) read_all end
+          (written_ended spoken st bytes a c short (ended_end spoken st mid bytes held a b stands c stops))
+
+      pub ended_front : (fault : AnswerFault) → HasBegun spoken mid (last_line held) fault b c → IfSome start (λ input. HasBegunSession spoken st input a c)
+      ended_front fault begun = told_all start now bytes (λ input. HasBegunSession spoken st input a c) read_all end
+          (front_whole spoken st bytes fault a c short (begun_end spoken st mid bytes held a b stands c fault begun))
 
   -- a piece is read, of which this much is within the limit
-  module _ (before now : Option (List ℕ)) (first : Consumes start before bytes) (buf : List ℕ) (count within : ℕ) (next : Consumes before now (take count buf)) (bound : count ≤ length buf)
-      (is : within ≡ min count (most - length bytes)) where
+  module _ (now : Option (List ℕ)) (buf : List ℕ) (count within : ℕ) (next : Consumes before now (take count buf)) (bound : count ≤ length buf) (fits : within ≡ min count (most - taken)) where
+    is : within ≡ min count (most - length so.bytes)
+    is = omega (arith, fits, so.long)
+
     read : Consumes start now (bytes ++ take count buf)
-    read = Consumes-trans start before now bytes (take count buf) first next
+    read = Consumes-trans start before now bytes (take count buf) so.read next
 
     part : take within (take count buf) ≡ take within buf
-    part = take_take within count buf (omega arith)
+    part = take_take within count buf (omega (arith, is, short))
 
     long : length (take count buf) ≡ count
     long = length-take-le count buf bound
@@ -81,13 +91,13 @@ module _ (spoken : Spoken) (st mid : State) (bytes held : List ℕ) (a b : Optio
       pub begun_read : IfSome start (λ input. HasBegunSession spoken st input a c)
       begun_read = told start now (bytes ++ take count buf) (λ input. HasBegunSession spoken st input a c) read
           (λ rest.
-          let at = within_piece bytes (take count buf) rest within (omega arith) (omega (arith, long)) in
+          let at = within_piece bytes (take count buf) rest within (omega (arith, is, short)) (omega (arith, is, short, long)) in
           front_within spoken st ((bytes ++ take count buf) ++ rest) (bytes ++ take within (take count buf)) at.0 fault a c all_begun at.1)
 
       taken_begun : (taken : List ℕ) × Consumes start now taken × HasBegun spoken st (whole_lines_of (take most taken)) fault a c
       taken_begun =
           let front = bytes ++ take within (take count buf) in
-          let at = within_piece bytes (take count buf) [] within (omega arith) (omega (arith, long)) in
+          let at = within_piece bytes (take count buf) [] within (omega (arith, is, short)) (omega (arith, is, short, long)) in
           let is : take most (bytes ++ take count buf) ≡ front ++ at.0 = ap (take most) (sym (append-nil (bytes ++ take count buf))) ∙ at.1 in (
             bytes ++ take count buf,
             read,
@@ -107,7 +117,7 @@ module _ (spoken : Spoken) (st mid : State) (bytes held : List ℕ) (a b : Optio
       pub quit_whole : IfSome start (λ input. HasWrittenSession spoken st input Done a c)
       quit_whole = told start now (bytes ++ take count buf) (λ input. HasWrittenSession spoken st input Done a c) read
           (λ rest.
-          let at = within_piece bytes (take count buf) rest within (omega arith) (omega (arith, long)) in
+          let at = within_piece bytes (take count buf) rest within (omega (arith, is, short)) (omega (arith, is, short, long)) in
           written_quit spoken st ((bytes ++ take count buf) ++ rest) (bytes ++ take within (take count buf)) at.0 a c all_ended at.1)
 
       pub quit_taken : HasTakenQuit start now
@@ -122,23 +132,30 @@ module _ (spoken : Spoken) (st mid : State) (bytes held : List ℕ) (a b : Optio
           )
 
     module _ (after : State) (c : Option (List ℕ)) (answered : HasAnswered spoken mid (whole_lines_of (held ++ take within buf)) after b c) (left : List ℕ) (kept : left ≡ take 4098 (last_piece (held ++ take within buf))) where
-      pub stands_read : count ≤ within → Stands spoken st after (bytes ++ take count buf) left a c
-      stands_read all =
-          let same : within ≡ count = omega arith in
-          stands_piece spoken st mid bytes held a b stands (take count buf) c after left
-          (subst (λ n. HasAnswered spoken mid (whole_lines_of (held ++ take n buf)) after b c) same answered)
-          (kept ∙ ap (λ (n : ℕ). take 4098 (last_piece (held ++ take n buf))) same)
+      pub reads_on : count ≤ within → HasRead spoken st after left (taken + count) start now a c
+      reads_on all =
+          let same : within ≡ count = omega (arith, is, short) in
+          record {
+            bytes = bytes ++ take count buf;
+            read = read;
+            long = omega (arith, length-append bytes (take count buf), long, so.long, same);
+            within = omega (arith, is, short, so.long);
+            stands =
+                stands_piece spoken st mid bytes held a b stands (take count buf) c after left
+                (subst (λ n. HasAnswered spoken mid (whole_lines_of (held ++ take n buf)) after b c) same answered)
+                (kept ∙ ap (λ (n : ℕ). take 4098 (last_piece (held ++ take n buf))) same);
+          }
 
       -- more is read than the limit
       module _ (more : within < count) where
         full : length bytes + within ≡ most
-        full = omega arith
+        full = omega (arith, is, short)
 
         limit_reached : (rest : List ℕ) → take most ((bytes ++ take count buf) ++ rest) ≡ bytes ++ take within buf
-        limit_reached rest = at_limit_of bytes (take count buf) rest within (omega arith) (omega (arith, long)) full ∙ ap (λ (l : List ℕ). bytes ++ l) part
+        limit_reached rest = at_limit_of bytes (take count buf) rest within (omega (arith, is, short)) (omega (arith, is, short, long)) full ∙ ap (λ (l : List ℕ). bytes ++ l) part
 
         is_past : (rest : List ℕ) → most < length ((bytes ++ take count buf) ++ rest)
-        is_past rest = past_limit bytes (take count buf) rest within (omega arith) (omega (arith, long)) full (omega (arith, long))
+        is_past rest = past_limit bytes (take count buf) rest within (omega (arith, is, short)) (omega (arith, is, short, long)) full (omega (arith, is, short, long))
 
         all_answered : (rest : List ℕ) → HasAnswered spoken st (whole_lines_of (take most ((bytes ++ take count buf) ++ rest))) after a c
         all_answered rest =

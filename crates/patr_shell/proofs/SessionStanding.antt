@@ -1,11 +1,7 @@
 -- Where a session stands after some bytes of the input.
 use Rattle.std.proofs.Common.{◌≡◌, ◌≤◌, ◌<◌, ℕ, List, [], ◌∷◌, ◌++◌, Option, length, take, refl, sym, ◌∙◌, ap, subst, arith, inl, inr}
-use Rattle.std.proofs.lemmas.List.{length-take}
-use Rattle.patr_model.specs.Session.{without_cr, without_empty, whole_lines_from, whole_lines_of, lines_of}
-use Rattle.patr_shell.specs.Spoken.{Spoken}
-use Rattle.patr_shell.specs.Answering.{HasNoFeed, last_of, last_piece, last_line, HasAnswered, HasEnded, HasBegun}
+use Rattle.patr_shell.proofs.Names.{length-take, without_cr, without_empty, whole_lines_from, whole_lines_of, lines_of, Spoken, HasNoFeed, last_of, last_piece, last_line, HasAnswered, HasEnded, HasBegun, AnswerFault}
 use Rattle.patr_shell.specs.declared.state.State.{State}
-use Rattle.patr_shell.specs.declared.session.AnswerFault.{AnswerFault}
 use Rattle.patr_shell.proofs.Cuts.{cut, lines_behind, piece_behind, piece_is_free, take_is_free, lines_of_two, piece_of_two, lines_are}
 use Rattle.patr_shell.proofs.Ends.{kept_behind, take_once}
 use Rattle.patr_shell.proofs.Replying.{one_or_long, answered_none, answered_behind, answered_same, ended_behind, ended_same, begun_same, begun_behind, begun_of_answered}

@@ -1,24 +1,9 @@
 -- How what was answered makes up the text of a session over a whole input.
 use Rattle.std.proofs.Common.{◌≡◌, ◌<◌, ◌≤◌, ◌-◌, ◌+◌, ℕ, List, [], ◌∷◌, ◌++◌, Option, None, Some, IfSome, Bool, true, false, length, take, drop, leb, refl, sym, ◌∙◌, ap, subst, append_assoc, append-nil, arith, length-append, take-append-drop, inr}
-use Rattle.std.proofs.lemmas.Bool.Decides.{nat_tests}
-use Rattle.std.proofs.lemmas.List.{take_all, take_at, length-take-le}
-use Rattle.std.specs.Io.KnownBytes.{Appends, Consumes, IsAtEnd}
-use Rattle.std.proofs.KnownBytes.{Appends-trans}
-use Rattle.patr_model.specs.Solved.{solved}
-use Rattle.patr_model.specs.Notations.{lines_with_commands}
+use Rattle.patr_shell.proofs.Names.{nat_tests, take_all, take_at, length-take-le, Appends, Consumes, IsAtEnd, Appends-trans, solved, lines_with_commands, Numbering, AgreesWith, Grounds, Replied, whole_lines_of, lines_of, built, Answered, SessionRepliesBegin, least_texts, replies_begin, session_one, Spoken, grounds, state_seen, AppendsFront, HasAnswered, HasEnded, HasBegun, HasWrittenSession, HasBegunSession, too_long_line, last_piece, last_line, AnswerFault}
 use Rattle.patr_model.specs.Session as session
-use Rattle.patr_model.specs.Session.{Numbering, AgreesWith, Grounds, Replied, whole_lines_of, lines_of}
 use Rattle.patr_model.specs.Run.{Ending, Done, InputTooLong, IsSession, ended, quit, too_long}
-use Rattle.patr_model.specs.Built.{built}
-use Rattle.patr_model.specs.Openings.{Answered, SessionRepliesBegin}
-use Rattle.patr_model.proofs.Canonical.{least_texts}
-use Rattle.patr_model.proofs.Lines.{replies_begin}
-use Rattle.patr_model.proofs.OneRun.{session_one}
-use Rattle.patr_shell.specs.Spoken.{Spoken, grounds, state_seen}
-use Rattle.patr_shell.specs.Sent.{AppendsFront}
-use Rattle.patr_shell.specs.Answering.{HasAnswered, HasEnded, HasBegun, HasWrittenSession, HasBegunSession, too_long_line, last_piece, last_line}
 use Rattle.patr_shell.specs.declared.state.State.{State}
-use Rattle.patr_shell.specs.declared.session.AnswerFault.{AnswerFault}
 use Rattle.patr_shell.proofs.Cuts.{lines_of_two, lines_are}
 use Rattle.patr_shell.proofs.Ends.{take_two}
 use Rattle.patr_shell.proofs.Fronts.{front_longer, front_behind, whole_front, reached_front}

@@ -1,8 +1,7 @@
 use Rattle.std.proofs.Common.{◌≡◌, ◌+◌, ◌≤◌, length, false, nat_eq}
 use denote.Text.{Utf8}
 use denote.Shadow.{shadow}
-use Rattle.patr_model.specs.Session.{pieces}
-use Rattle.patr_model.specs.LexiconLines.{bad_token, lines, numbered}
+use Rattle.patr_lexicon.proofs.Names.{pieces, bad_token, lines, numbered}
 use Rattle.patr_lexicon.proofs.line.bad_token.Given as goal
 
 abbrev pub invariant-lines : goal.invariant-lines

@@ -1,6 +1,5 @@
 use Rattle.std.proofs.Common.{◌+◌, drop, sym, ap, ◌∙◌, arith}
-use Rattle.patr_model.specs.LexiconLines.{control}
-use Rattle.patr_lexicon.specs.Reading.{place_at}
+use Rattle.patr_lexicon.proofs.Names.{control, place_at}
 use Rattle.patr_lexicon.proofs.Lines.{control_hit, control_stops, control_goes_on, control_ends}
 use Rattle.patr_lexicon.proofs.line.control.Goals as goal
 

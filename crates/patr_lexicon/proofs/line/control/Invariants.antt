@@ -1,6 +1,5 @@
 use Rattle.std.proofs.Common.{◌≡◌, ◌+◌, ℕ, drop}
-use Rattle.patr_model.specs.LexiconLines.{control}
-use Rattle.patr_lexicon.specs.Reading.{place_at}
+use Rattle.patr_lexicon.proofs.Names.{control, place_at}
 use Rattle.patr_lexicon.proofs.line.control.Given as goal
 
 abbrev pub invariant-loop-place : goal.invariant-loop-place

@@ -1,6 +1,5 @@
 use Rattle.std.proofs.Common.{◌≡◌, ◌+◌, ◌≤◌, length, take}
-use Rattle.std.specs.List.{suffix_len}
-use Rattle.patr_model.specs.LexiconLines.{is_edge}
+use Rattle.patr_lexicon.proofs.Names.{suffix_len, is_edge}
 use Rattle.patr_lexicon.proofs.line.kept_len.Given as goal
 
 abbrev pub invariant-loop-len : goal.invariant-loop-len

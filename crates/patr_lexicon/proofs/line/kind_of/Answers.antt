@@ -1,6 +1,5 @@
 use Rattle.std.proofs.Common.{ℕ, List, drop, sym, ap, ◌∙◌}
-use Rattle.std.proofs.lemmas.List.{take_rest}
-use Rattle.patr_model.specs.LexiconLines.{marker_len, begins_with}
+use Rattle.patr_lexicon.proofs.Names.{take_rest, marker_len, begins_with}
 use Rattle.patr_lexicon.proofs.Trims.{marker_is_boundary, begins_some}
 use Rattle.patr_lexicon.proofs.line.kind_of.Goals as goal
 

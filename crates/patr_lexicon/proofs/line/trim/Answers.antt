@@ -1,7 +1,5 @@
 use Rattle.std.proofs.Common.{◌≡◌, ◌+◌, ◌<◌, ◌-◌, ℕ, List, length, drop, take, arith, sym, ap, ◌∙◌, subst}
-use Rattle.std.specs.List.{prefix_len, suffix_len}
-use Rattle.std.specs.Str.{IsCharBoundary}
-use Rattle.patr_model.specs.LexiconLines.{is_edge}
+use Rattle.patr_lexicon.proofs.Names.{prefix_len, suffix_len, IsCharBoundary, is_edge}
 use Rattle.patr_lexicon.proofs.Trims.{front_is_boundary, end_is_boundary, trimmed_is}
 use Rattle.patr_lexicon.proofs.line.trim.Goals as goal
 

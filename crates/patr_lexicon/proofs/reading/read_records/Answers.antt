@@ -1,8 +1,6 @@
 use Rattle.std.proofs.Common.{◌+◌, ◌≤◌, [], Ok, length, Option, ap, subst, arith, rules}
-use Rattle.std.proofs.lemmas.Result.{err_from_is_err_and}
+use Rattle.patr_lexicon.proofs.Names.{err_from_is_err_and, rest_len, FailsFor, IsKept, ended_before, record_of, most_texts_of}
 use Rattle.patr_lexicon.specs.declared.record.Record.{Record}
-use Rattle.patr_lexicon.specs.Parts.{rest_len}
-use Rattle.patr_lexicon.specs.States.{FailsFor, IsKept, ended_before, record_of, most_texts_of}
 use Rattle.patr_lexicon.proofs.Places.{first_begins, line_stands, next_begins, record_later}
 use Rattle.patr_lexicon.proofs.Steps.{none_read, line_fails, line_read, line_kept, kept_read, fails_behind, last_read, next_read, all_read}
 use Rattle.patr_lexicon.proofs.reading.read_records.Goals as goal

@@ -1,8 +1,7 @@
 use Rattle.std.proofs.Common.{◌+◌, ◌≤◌, length}
 use denote.Text.{Utf8}
 use denote.Shadow.{shadow}
-use Rattle.patr_lexicon.specs.States.{record_of, most_texts_of}
-use Rattle.patr_lexicon.specs.Laid.{IsLaidBefore}
+use Rattle.patr_lexicon.proofs.Names.{record_of, most_texts_of, IsLaidBefore}
 use Rattle.patr_lexicon.proofs.Places.{BeginsAt}
 use Rattle.patr_lexicon.proofs.Steps.{IsRead, left_at}
 use Rattle.patr_lexicon.proofs.reading.read_records.Given as goal

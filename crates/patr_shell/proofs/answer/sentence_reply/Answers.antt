@@ -1,11 +1,8 @@
 use Rattle.std.proofs.Common.{ℕ, List, map, Bor, IfOk, sym, subst}
 use Rattle.std.specs.String.{string_bytes}
-use Rattle.patr_model.specs.Solved.{solved}
-use Rattle.patr_model.specs.Session.{AgreesWith, IsSentenceReply}
-use Rattle.patr_library.specs.Stored.{Stored}
+use Rattle.patr_shell.proofs.Names.{solved, AgreesWith, IsSentenceReply, Stored, state_seen}
 use Rattle.patr_parse.specs.Sentences.{IsRefusedFor, IsFirstCause}
 use Rattle.patr_reply.specs.Lines.{grounds as by_library}
-use Rattle.patr_shell.specs.Spoken.{state_seen}
 use Rattle.patr_shell.proofs.answer.sentence_reply.Goals as goal
 
 pub returns-in-Ok : goal.returns-in-Ok

@@ -1,14 +1,7 @@
 use Rattle.std.proofs.Common.{◌≡◌, [], ℕ, List, map, get_or, Bor, Some, None, sym, ap, ◌∙◌, subst, arith, lit<, eqb-true, eq-eqb, vec_len}
-use Rattle.std.specs.Bool.{Decides}
+use Rattle.patr_shell.proofs.Names.{Decides, IfOk-weaker, nil_from_length, solved, IsSentenceReply, words_of, lines_with_commands, command_seen, grounds, state_seen, IsAnswerToCommand, IsAnswerToWords}
 use Rattle.std.specs.String.{string_bytes}
-use Rattle.std.proofs.lemmas.Result.{IfOk-weaker}
 use Rattle.std.proofs.lemmas.Str.Pattern.{starts_char}
-use Rattle.std.proofs.lemmas.List.{nil_from_length}
-use Rattle.patr_model.specs.Solved.{solved}
-use Rattle.patr_model.specs.Session.{IsSentenceReply, words_of}
-use Rattle.patr_model.specs.Notations.{lines_with_commands}
-use Rattle.patr_shell.specs.Spoken.{command_seen, grounds, state_seen}
-use Rattle.patr_shell.specs.Answering.{IsAnswerToCommand, IsAnswerToWords}
 use Rattle.patr_shell.proofs.LineReplies.{no_words, sentence_answer, bad_answer, command_answers, first_word}
 use Rattle.patr_shell.proofs.answer.text_answer.Goals as goal
 

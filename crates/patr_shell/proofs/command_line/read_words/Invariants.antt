@@ -1,6 +1,5 @@
 use Rattle.std.proofs.Common.{◌≡◌, Some, None, map, drop, string_bytes}
-use Rattle.patr_model.specs.CommandLine.{said}
-use Rattle.patr_shell.specs.Words.{said_in_all}
+use Rattle.patr_shell.proofs.Names.{said, said_in_all}
 use Rattle.patr_shell.proofs.command_line.read_words.Given as goal
 
 abbrev pub invariant-loop-word : goal.invariant-loop-word

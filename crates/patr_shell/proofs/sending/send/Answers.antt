@@ -1,6 +1,5 @@
 use Rattle.std.proofs.Common.{[], ap, length, nat_eq, List, ℕ, sym, ◌∙◌, true≢false}
-use Rattle.std.proofs.KnownBytes.{Appends-kept}
-use Rattle.std.proofs.lemmas.Result.{err_from_is_err_and}
+use Rattle.patr_shell.proofs.Names.{Appends-kept, err_from_is_err_and}
 use Rattle.patr_shell.proofs.Fronts.{sent_whole, sent_kept, OnErr-always}
 use Rattle.patr_shell.proofs.Passing.{passed_if_ok}
 use Rattle.patr_shell.proofs.sending.send.Goals as goal

@@ -1,8 +1,5 @@
 use Rattle.std.proofs.Common.{[], ◌∷◌}
-use Rattle.std.proofs.KnownBytes.{Keeps-refl}
-use Rattle.std.proofs.lemmas.Result.{err_from_is_err_and}
-use Rattle.patr_model.specs.Session.{IsQuit, without_cr}
-use Rattle.patr_model.specs.Notations.{lines_with_commands}
+use Rattle.patr_shell.proofs.Names.{Keeps-refl, err_from_is_err_and, IsQuit, without_cr, lines_with_commands}
 use Rattle.patr_shell.proofs.Fronts.{IfErr-always}
 use Rattle.patr_shell.proofs.Passing.{passes_none}
 use Rattle.patr_shell.proofs.Replying.{line_reply, begun_none, begun_one, answered_one, ended_one}

@@ -1,8 +1,6 @@
-use Rattle.std.proofs.Common.{◌≡◌, ◌≤◌, ◌-◌, ℕ, List, length, false}
-use Rattle.std.specs.Io.KnownBytes.{Consumes}
-use Rattle.patr_shell.specs.Sent.{PassesOn}
-use Rattle.patr_shell.specs.Spoken.{HasLimit}
-use Rattle.patr_shell.proofs.SessionStanding.{Stands}
+use Rattle.std.proofs.Common.{◌≡◌, ◌-◌, false}
+use Rattle.patr_shell.proofs.Names.{PassesOn, HasLimit}
+use Rattle.patr_shell.proofs.SessionReads.{HasRead}
 use Rattle.patr_shell.proofs.session.run_session.Given as goal
 
 -- the session stands behind the bytes that were read, and nothing failed
@@ -11,11 +9,7 @@ invariant-reads g l =
     let left = g.S.Source.left in
     let written = g.K.Sink.written in
     record {
-      bytes : List ℕ;
-      read : Consumes (left l.fn.source) (left l.source) bytes;
-      long : length bytes ≡ l.taken;
-      within : l.taken ≤ 16777216;
-      stands : Stands l.language l.fn.first l.state bytes l.held.items (written l.fn.sink) (written l.sink);
+      so : HasRead l.language l.fn.first l.state l.held.items l.taken (left l.fn.source) (left l.source) (written l.fn.sink) (written l.sink);
       limit : HasLimit l.state;
       flushed : PassesOn false (written l.fn.sink) (written l.sink) (g.K.Sink.flushed l.fn.sink) (g.K.Sink.flushed l.sink);
       source_well : g.S.Source.faults l.source ≡ g.S.Source.faults l.fn.source;

@@ -1,4 +1,4 @@
-use Rattle.std.proofs.Common.{◌≡◌, ◌∷◌, ◌++◌, ◌∙◌, refl, sym, ap, take, List, ℕ}
+use Rattle.std.proofs.Common.{◌∙◌, refl, sym, ap, take, List, ℕ}
 use Rattle.std.proofs.lemmas.Result.{err_from_is_err_and}
 use Rattle.patr_shell.proofs.Fronts.{IfErr-always}
 use Rattle.patr_shell.proofs.Passing.{passes_none, passes_still, passes_behind}
@@ -27,10 +27,8 @@ returns-in_err-keep-2-clause-flushed g c = passes_still _ _ _ _ _ c.lines.invari
 
 pub returns-in_err-answer_line-clause-front : goal.returns-in_err-answer_line-clause-front
 returns-in_err-answer_line-clause-front g c =
-    let kept : c.deref.result.now ≡ take 4098 (c.lines.held.items ++ c.in-Some.front.now) = c.deref.ensures.value ∙ c.in_ok-keep.ensures in
-    let cut : c.lines.rest.now ≡ c.in-Some.front.now ++ 10 ∷ c.in-Some.behind.now = c.in-Some.ensures.cut in
     let p = err_from_is_err_and c.from_residual-in_err-answer_line.result c.from_residual-in_err-answer_line.ensures.1 in
-    rw (p.1, p.2) (in_piece_fault _ _ _ _ _ _ _ _ c.lines.invariant.stands _ _ _ cut c.in-Some.ensures.free kept _ _ c.in_err-answer_line.ensures.front)
+    rw (p.1, p.2) (in_piece_fault _ _ _ _ _ _ _ _ c.lines.invariant.stands _ _ _ c.in-Some.ensures.cut c.in-Some.ensures.free (c.deref.ensures.value ∙ c.in_ok-keep.ensures) _ _ c.in_err-answer_line.ensures.front)
 
 pub returns-in_err-answer_line-clause-flushed : goal.returns-in_err-answer_line-clause-flushed
 returns-in_err-answer_line-clause-flushed g c =
@@ -38,26 +36,18 @@ returns-in_err-answer_line-clause-flushed g c =
     rw (p.1, p.2) (passes_behind _ _ _ _ _ _ _ c.lines.invariant.flushed c.in_err-answer_line.ensures.flushed)
 
 pub returns-in-Ends-clause-told : goal.returns-in-Ends-clause-told
-returns-in-Ends-clause-told g c =
-    let kept : c.deref.result.now ≡ take 4098 (c.lines.held.items ++ c.in-Some.front.now) = c.deref.ensures.value ∙ c.in_ok-keep.ensures in
-    let cut : c.lines.rest.now ≡ c.in-Some.front.now ++ 10 ∷ c.in-Some.behind.now = c.in-Some.ensures.cut in
-    let ended = rw c.in-Ends.is at c.in_ok-answer_line.ensures.told in
-    in_piece_quit _ _ _ _ _ _ _ _ c.lines.invariant.stands _ _ _ cut c.in-Some.ensures.free kept _ ended
+returns-in-Ends-clause-told g c = in_piece_quit _ _ _ _ _ _ _ _ c.lines.invariant.stands _ _ _ c.in-Some.ensures.cut c.in-Some.ensures.free (c.deref.ensures.value ∙ c.in_ok-keep.ensures) _ (rw c.in-Ends.is at c.in_ok-answer_line.ensures.told)
 
 pub returns-in-Ends-clause-flushed : goal.returns-in-Ends-clause-flushed
 returns-in-Ends-clause-flushed g c = passes_behind _ _ _ _ _ _ _ c.lines.invariant.flushed c.in_ok-answer_line.ensures.flushed
 
 pub lines-preserved : goal.lines-preserved
-lines-preserved g c =
-    let kept : c.deref.result.now ≡ take 4098 (c.lines.held.items ++ c.in-Some.front.now) = c.deref.ensures.value ∙ c.in_ok-keep.ensures in
-    let cut : c.lines.rest.now ≡ c.in-Some.front.now ++ 10 ∷ c.in-Some.behind.now = c.in-Some.ensures.cut in
-    let answered = rw c.in-GoesOn.is at c.in_ok-answer_line.ensures.told in
-    record {
-      stands = rw c.clear.ensures.items (in_piece_line _ _ _ _ _ _ _ _ c.lines.invariant.stands _ _ _ cut c.in-Some.ensures.free kept _ _ answered);
-      limit = c.in_ok-answer_line.ensures.limit;
-      flushed = passes_behind _ _ _ _ _ _ _ c.lines.invariant.flushed c.in_ok-answer_line.ensures.flushed;
-      well = c.in_ok-answer_line.ensures.cause.kept ∙ c.lines.invariant.well;
-    }
+lines-preserved g c = record {
+  stands = rw c.clear.ensures.items (in_piece_line _ _ _ _ _ _ _ _ c.lines.invariant.stands _ _ _ c.in-Some.ensures.cut c.in-Some.ensures.free (c.deref.ensures.value ∙ c.in_ok-keep.ensures) _ _ (rw c.in-GoesOn.is at c.in_ok-answer_line.ensures.told));
+  limit = c.in_ok-answer_line.ensures.limit;
+  flushed = passes_behind _ _ _ _ _ _ _ c.lines.invariant.flushed c.in_ok-answer_line.ensures.flushed;
+  well = c.in_ok-answer_line.ensures.cause.kept ∙ c.lines.invariant.well;
+}
 
 pub returns-clause-told : goal.returns-clause-told
 returns-clause-told g c = in_piece_end _ _ _ _ _ _ _ _ c.lines.invariant.stands c.in_default.ensures.none

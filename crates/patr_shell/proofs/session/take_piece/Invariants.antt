@@ -1,6 +1,5 @@
 use Rattle.std.proofs.Common.{◌≡◌, ◌++◌, length, false}
-use Rattle.patr_shell.specs.Sent.{PassesOn}
-use Rattle.patr_shell.specs.Spoken.{HasLimit}
+use Rattle.patr_shell.proofs.Names.{PassesOn, HasLimit}
 use Rattle.patr_shell.proofs.InPieces.{InPiece}
 use Rattle.patr_shell.proofs.session.take_piece.Given as goal
 

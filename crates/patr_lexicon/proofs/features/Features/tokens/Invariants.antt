@@ -1,6 +1,5 @@
 use Rattle.std.proofs.Common.{take}
-use Rattle.patr_lexicon.specs.Parts.{pieces_seen}
-use Rattle.patr_lexicon.specs.Cut.{AreCutFrom}
+use Rattle.patr_lexicon.proofs.Names.{pieces_seen, AreCutFrom}
 use Rattle.patr_lexicon.proofs.features.Features.tokens.Given as goal
 
 abbrev pub invariant-loop-piece : goal.invariant-loop-piece

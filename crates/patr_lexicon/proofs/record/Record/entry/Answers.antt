@@ -1,20 +1,16 @@
 use Rattle.std.proofs.Common.{refl}
-use Rattle.patr_model.specs.LexiconText.{EntryText, gloss_of}
-use Rattle.patr_grammar.proofs.Tables.{extends_trans}
-use Rattle.patr_lexicon.specs.Parts.{record_seen}
+use Rattle.patr_lexicon.proofs.Names.{EntryText, gloss_of, extends_trans, record_seen}
 use Rattle.patr_lexicon.proofs.Grown.{held_text, entry_held}
 use Rattle.patr_lexicon.proofs.States.{closed_good}
 use Rattle.patr_lexicon.proofs.record.Record.entry.Goals as goal
 
 pub returns-in_err-features-clause-extends : goal.returns-in_err-features-clause-extends
 returns-in_err-features-clause-extends c =
-    let last = extends_trans c.intern-2.new.self c.gloss_id.new.symbols c.elements.new.symbols c.in_ok-gloss.ensures.extends c.in_err-features.ensures.extends in
-    held_text c.args.symbols.now c.intern.new.self c.elements.new.symbols _ c.in_ok-word.ensures.texts (held_text c.intern.new.self c.intern-2.new.self c.elements.new.symbols _ c.in_ok-category.ensures.texts last)
+    held_text c.args.symbols.now c.intern.new.self c.elements.new.symbols _ c.in_ok-word.ensures.texts (held_text c.intern.new.self c.intern-2.new.self c.elements.new.symbols _ c.in_ok-category.ensures.texts (extends_trans c.intern-2.new.self c.gloss_id.new.symbols c.elements.new.symbols c.in_ok-gloss.ensures.extends c.in_err-features.ensures.extends))
 
 pub returns-clause-extends : goal.returns-clause-extends
 returns-clause-extends c =
-    let last = extends_trans c.intern-2.new.self c.gloss_id.new.symbols c.elements.new.symbols c.in_ok-gloss.ensures.extends c.in_ok-features.ensures.extends in
-    held_text c.args.symbols.now c.intern.new.self c.elements.new.symbols _ c.in_ok-word.ensures.texts (held_text c.intern.new.self c.intern-2.new.self c.elements.new.symbols _ c.in_ok-category.ensures.texts last)
+    held_text c.args.symbols.now c.intern.new.self c.elements.new.symbols _ c.in_ok-word.ensures.texts (held_text c.intern.new.self c.intern-2.new.self c.elements.new.symbols _ c.in_ok-category.ensures.texts (extends_trans c.intern-2.new.self c.gloss_id.new.symbols c.elements.new.symbols c.in_ok-gloss.ensures.extends c.in_ok-features.ensures.extends))
 
 pub returns-clause-reads : goal.returns-clause-reads
 returns-clause-reads c =

@@ -1,6 +1,5 @@
 use Rattle.std.proofs.Common.{refl, ap}
-use Rattle.patr_model.specs.LexiconText.{NoWord, SeveralWords, NoCategory}
-use Rattle.patr_lexicon.specs.Parts.{words_seen, record_seen}
+use Rattle.patr_lexicon.proofs.Names.{NoWord, SeveralWords, NoCategory, words_seen, record_seen}
 use Rattle.patr_lexicon.proofs.States.{closed_empty, closed_several, closed_other, not_one}
 use Rattle.patr_lexicon.proofs.record.Record.texts.Goals as goal
 

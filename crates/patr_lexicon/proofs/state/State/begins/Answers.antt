@@ -1,9 +1,6 @@
 use Rattle.std.proofs.Common.{sym, ap, ◌∙◌, arith}
-use Rattle.std.proofs.lemmas.Result.{err_from_is_err_and}
+use Rattle.patr_lexicon.proofs.Names.{err_from_is_err_and, end_byte, piece_seen, from_record, ended_before, record_of}
 use Rattle.patr_model.specs.declared.field.Marker.TheVariants as markers
-use Rattle.patr_lexicon.specs.Laid.{end_byte}
-use Rattle.patr_lexicon.specs.Parts.{piece_seen}
-use Rattle.patr_lexicon.specs.States.{from_record, ended_before, record_of}
 use Rattle.patr_lexicon.proofs.States.{word_begins}
 use Rattle.patr_lexicon.proofs.Places.{record_later}
 use Rattle.patr_lexicon.proofs.state.State.begins.Goals as goal

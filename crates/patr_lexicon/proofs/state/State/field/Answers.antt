@@ -1,8 +1,5 @@
 use Rattle.std.proofs.Common.{◌+◌, [], ◌∷◌, length, refl, sym, ap, ◌∙◌, arith}
-use Rattle.patr_model.specs.LexiconText.{NoWord}
-use Rattle.patr_lexicon.specs.Records.{with_field, with_pieces}
-use Rattle.patr_lexicon.specs.Parts.{piece_seen, record_seen}
-use Rattle.patr_lexicon.specs.States.{from_record, most_texts}
+use Rattle.patr_lexicon.proofs.Names.{NoWord, with_field, with_pieces, piece_seen, record_seen, from_record, most_texts}
 use Rattle.patr_lexicon.proofs.States.{field_within, before_record, most_with, most_begun}
 use Rattle.patr_lexicon.proofs.state.State.field.Goals as goal
 

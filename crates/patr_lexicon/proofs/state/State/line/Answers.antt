@@ -1,11 +1,7 @@
 use Rattle.std.proofs.Common.{◌≡◌, ℕ, ◌+◌, List, length, IfOk, sym, ap, ◌∙◌, subst, arith, length-drop}
-use Rattle.std.proofs.lemmas.Result.{err_from_is_err_and}
+use Rattle.patr_lexicon.proofs.Names.{err_from_is_err_and, kind, line_at, line_before, StandsAt, IsLaidBefore, place_at, FailsFor, goes_on, record_of}
 use Rattle.patr_model.specs.declared.field.LineKind.{LineKind}
 use Rattle.patr_model.specs.declared.field.LineKind.TheVariants.{Text}
-use Rattle.patr_model.specs.LexiconLines.{kind, line_at, line_before}
-use Rattle.patr_lexicon.specs.Laid.{StandsAt, IsLaidBefore}
-use Rattle.patr_lexicon.specs.Reading.{place_at}
-use Rattle.patr_lexicon.specs.States.{FailsFor, goes_on, record_of}
 use Rattle.patr_lexicon.proofs.Places.{stands_behind, record_later}
 use Rattle.patr_lexicon.proofs.state.State.line.Goals as goal
 

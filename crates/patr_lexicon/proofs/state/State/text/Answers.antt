@@ -1,7 +1,5 @@
 use Rattle.std.proofs.Common.{length, refl, sym, ap, ◌∙◌, arith}
-use Rattle.patr_model.specs.LexiconText.{NoWord}
-use Rattle.patr_lexicon.specs.Parts.{piece_seen, record_seen}
-use Rattle.patr_lexicon.specs.States.{from_record, most_texts}
+use Rattle.patr_lexicon.proofs.Names.{NoWord, piece_seen, record_seen, from_record, most_texts}
 use Rattle.patr_lexicon.proofs.States.{text_within, most_with}
 use Rattle.patr_lexicon.proofs.state.State.text.Goals as goal
 

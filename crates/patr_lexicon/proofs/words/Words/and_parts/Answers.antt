@@ -1,10 +1,6 @@
 use Rattle.std.proofs.Common.{◌∷◌, [], List, ℕ, length, map, Bor, sym, ap, ◌∙◌, lit<, eqb-true, eq-eqb}
-use Rattle.std.proofs.lemmas.List.{map-append}
-use Rattle.std.proofs.lemmas.Iterator.Consumers.{YieldsList-end}
-use Rattle.std.proofs.lemmas.Iterator.Splits.{YieldsList-from_str_split}
-use Rattle.patr_model.specs.Session.{without_empty}
+use Rattle.patr_lexicon.proofs.Names.{map-append, YieldsList-end, YieldsList-from_str_split, without_empty, words_seen}
 use Rattle.patr_lexicon.specs.Records.{One, counted, plus}
-use Rattle.patr_lexicon.specs.Parts.{words_seen}
 use Rattle.patr_lexicon.proofs.Records.{part_same, part_and}
 use Rattle.patr_lexicon.proofs.words.Words.and_parts.Goals as goal
 

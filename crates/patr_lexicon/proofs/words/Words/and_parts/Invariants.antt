@@ -1,7 +1,5 @@
 use Rattle.std.proofs.Common.{◌≡◌, List, ℕ, map, Bor}
-use Rattle.patr_model.specs.Session.{without_empty}
-use Rattle.patr_lexicon.specs.Records.{counted, plus}
-use Rattle.patr_lexicon.specs.Parts.{words_seen}
+use Rattle.patr_lexicon.proofs.Names.{without_empty, counted, plus, words_seen}
 use Rattle.patr_lexicon.proofs.words.Words.and_parts.Given as goal
 
 abbrev pub invariant-loop-word : goal.invariant-loop-word

@@ -1,10 +1,5 @@
 use Rattle.std.proofs.Common.{◌∷◌, [], List, ℕ, map, flat_map, Bor, sym, ap, ◌∙◌, lit<}
-use Rattle.std.proofs.lemmas.List.{map-append}
-use Rattle.std.proofs.lemmas.Iterator.Consumers.{YieldsList-end}
-use Rattle.std.proofs.lemmas.Iterator.Splits.{YieldsList-from_str_split}
-use Rattle.patr_lexicon.specs.Split.{between_tabs}
-use Rattle.patr_lexicon.specs.Records.{counted, plus}
-use Rattle.patr_lexicon.specs.Parts.{words_seen}
+use Rattle.patr_lexicon.proofs.Names.{map-append, YieldsList-end, YieldsList-from_str_split, between_tabs, counted, plus, words_seen}
 use Rattle.patr_lexicon.proofs.Splits.{words_by_parts}
 use Rattle.patr_lexicon.proofs.Records.{words_and}
 use Rattle.patr_lexicon.proofs.words.Words.and_words.Goals as goal

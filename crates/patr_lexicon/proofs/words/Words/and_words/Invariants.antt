@@ -1,7 +1,5 @@
 use Rattle.std.proofs.Common.{◌≡◌, List, ℕ, map, flat_map, Bor}
-use Rattle.patr_lexicon.specs.Split.{between_tabs}
-use Rattle.patr_lexicon.specs.Records.{counted, plus}
-use Rattle.patr_lexicon.specs.Parts.{words_seen}
+use Rattle.patr_lexicon.proofs.Names.{between_tabs, counted, plus, words_seen}
 use Rattle.patr_lexicon.proofs.words.Words.and_words.Given as goal
 
 abbrev pub invariant-loop-part : goal.invariant-loop-part

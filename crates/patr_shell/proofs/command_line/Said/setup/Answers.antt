@@ -1,6 +1,5 @@
 use Rattle.std.proofs.Common.{◌∙◌, ℕ, List, map, Bor, ap}
-use Rattle.patr_model.specs.CommandLine.{value_or, named}
-use Rattle.patr_shell.specs.Words.{setup_seen, said_seen}
+use Rattle.patr_shell.proofs.Names.{value_or, named, setup_seen, said_seen}
 use Rattle.patr_shell.proofs.CommandLine.{setup_of_values}
 use Rattle.patr_shell.proofs.command_line.Said.setup.Goals as goal
 

@@ -1,7 +1,6 @@
 use Rattle.std.proofs.Common.{◌∷◌, None, sym, ap, ◌∙◌}
 use Rattle.std.specs.Prelude.{option_map}
-use Rattle.patr_model.specs.CommandLine.{said}
-use Rattle.patr_shell.specs.Words.{flag_seen, said_seen, said_then, said_from}
+use Rattle.patr_shell.proofs.Names.{said, flag_seen, said_seen, said_then, said_from}
 use Rattle.patr_shell.proofs.CommandLine.{said_value, value_then}
 use Rattle.patr_shell.proofs.command_line.Said.take.Goals as goal
 
