@@ -8,7 +8,7 @@ pub mod Fronts
 pub mod ItemFronts
 pub mod Reading
 pub mod Turns
-pub mod Moved
+pub mod Renumbered
 pub mod Fitting
 pub mod SameNodes
 pub mod ReadBacks

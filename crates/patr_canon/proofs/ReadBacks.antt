@@ -12,7 +12,7 @@ use Rattle.patr_arena.proofs.Showing.{blocks_shown}
 use Rattle.patr_canon.specs.declared.reader.Reader.{Reader}
 use Rattle.patr_canon.specs.declared.reader.Target.TheVariants as target
 use Rattle.patr_canon.proofs.Fitting.{outline_fits}
-use Rattle.patr_canon.proofs.Moved.{moved_length}
+use Rattle.patr_canon.proofs.Renumbered.{moved_length}
 use Rattle.patr_canon.proofs.SameNodes.{moved_all, of_block, one_way, ref_below, so_many}
 use Rattle.patr_canon.proofs.Spelled.{nodes_own}
 

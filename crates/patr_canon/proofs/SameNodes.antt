@@ -4,7 +4,7 @@ use Rattle.std.proofs.lemmas.Option.{slice_get-get_or}
 use Rattle.patr_canon.proofs.Names.{All-from_recursion, All-permutation, AllByRecursion, Arcs, ArcsAreBelow, AreMoved, Atom, Feature, GiveOneText, Global, HasDistinct, IsBelow, IsLookOf, IsRefBelow, IsStructure, IsValue, Link, Look, Node, NodeIsBelow, NodesAreBelow, OfSymbols, OfValue, Structure, Target, Value, arc, arcs_from, arcs_of, below_more_places, feature_seen, length-map, links_seen, nodes_seen, nothing, recursion_from_All, ref_seen, some_inj, table_look, target_seen, text_or, total, zeros}
 use Rattle.patr_model.specs.Subsumption.{MapsInto, image}
 use Rattle.patr_canon.specs.declared.reader.Target.TheVariants as target
-use Rattle.patr_canon.proofs.Moved.{moved_arcs}
+use Rattle.patr_canon.proofs.Renumbered.{moved_arcs}
 use Rattle.patr_canon.proofs.Orders.{moved_along}
 use Rattle.patr_canon.proofs.Spelled.{nodes_below}
 

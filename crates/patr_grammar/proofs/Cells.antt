@@ -2,7 +2,7 @@
 use Rattle.std.proofs.Common.{◌≡◌, ℕ, suc, ◌-◌, ◌≤◌, ◌<◌, List, [], ◌∷◌, length, get_or, take, drop, refl, sym, ap, ◌∙◌, arith, eqb, true, false}
 use Rattle.std.proofs.Math.Seq.{take-length}
 use Rattle.patr_grammar.proofs.Names.{Less, Lexeme, nat_tests}
-use Rattle.patr_model.specs.declared.notation.Key.TheVariants.{Plain}
+use Rattle.patr_model.specs.declared.notation.Keyword.TheVariants.{Plain}
 
 abbrev pub blank : Lexeme
 blank = record { kind = Less; key = Plain; word = record { 0 = 0 }; category = record { 0 = 0 }; line = 0; column = 0 }

@@ -1,7 +1,7 @@
 -- What productions give at the stage that is built.
 use Rattle.std.proofs.Common.{◌≡◌, ℕ, suc, ◌-◌, Bool, true, false, cond, List, [], ◌∷◌, ◌++◌, map, nat_eq, None, slice_index_or, ◌<◌, length, refl, sym, ap, ◌∙◌, arith, append-nil}
 use Rattle.patr_grammar.proofs.Names.{CloseBrace, Expected, Got, Item, LaterForm, Left, OpenBrace, OpenParen, Parse, RuleClause, RuleText, Settings, Single, Stands, Stops, SymbolText, TooManySymbols, Words, ◌>>=◌, before, begins, clause, clauses, concluded, grammar, is_key, is_kind, is_symbol, item, lexical_rule, name_tokens, nat_tests, outcome, parameter, settings, stage, symbol_item, symbol_of, template, with_rules}
-use Rattle.patr_model.specs.declared.notation.Key.TheVariants.{Let, Define, Parameter}
+use Rattle.patr_model.specs.declared.notation.Keyword.TheVariants.{Let, Define, Parameter}
 use Rattle.patr_model.specs.declared.notation.What.TheVariants as what
 use Rattle.patr_grammar.proofs.Loops.{onto, onto_one}
 

@@ -12,7 +12,7 @@ pub use Rattle.patr_model.specs.Productions.{AnyAttribute, AtomText, Clause, Equ
 unfoldable pub use Rattle.patr_model.specs.Productions.{braced, clauses, elements, equation, item, lexical_rule, many_right, name_tokens, parameter, path, template, term, word_list}
 pub use Rattle.patr_model.specs.Renaming.{Both, Each, SameRow, SameRows'}
 pub use Rattle.patr_model.specs.Tokens.{Place, Token, after, scan, start_place, tokens_of}
-pub use Rattle.patr_model.specs.declared.front.Kind.TheVariants.{CloseBrace, Equal, Greater, Less, OpenBrace, OpenParen, Word}
+pub use Rattle.patr_model.specs.declared.lookahead.Kind.TheVariants.{CloseBrace, Equal, Greater, Less, OpenBrace, OpenParen, Word}
 pub use Rattle.patr_text.specs.Texts.{Extends, holds, with_text}
 unfoldable pub use Rattle.patr_text.specs.Texts.{first_texts}
 pub use Rattle.patr_text.specs.Tokens.{InOrder, IsCut, seen}

@@ -6,7 +6,7 @@ ghost use Rattle.patr_grammar.specs.Reading.{symbol_seen};
 ghost use Rattle.patr_grammar.specs.Views.{by_id};
 
 use crate::grammar::SymbolText;
-use patr_model::{Key, Kind};
+use patr_model::{Keyword, Kind};
 use patr_text::Id;
 
 /// A token: its kind, the numbers of its text and of that text's category, and its place.
@@ -14,7 +14,7 @@ use patr_text::Id;
 pub struct Lexeme {
     pub kind: Kind,
     /// Which word of the notation the text is.
-    pub key: Key,
+    pub key: Keyword,
     pub word: Id,
     pub category: Id,
     /// The line, from 1.
@@ -35,7 +35,7 @@ impl Lexeme {
     }
 
     /// It is this word of the notation.
-    pub fn is_key(&self, key: Key) -> bool
+    pub fn is_key(&self, key: Keyword) -> bool
         ensures { result ≡ is_key by_id key self.now }
     {
         self.kind == Kind::Word && self.key == key
@@ -45,10 +45,10 @@ impl Lexeme {
     pub fn is_clause_word(&self) -> bool
         ensures { result ≡ is_clause_word by_id self.now }
     {
-        self.is_key(Key::Rule)
-            || self.is_key(Key::Let)
-            || self.is_key(Key::Define)
-            || self.is_key(Key::Parameter)
+        self.is_key(Keyword::Rule)
+            || self.is_key(Keyword::Let)
+            || self.is_key(Keyword::Define)
+            || self.is_key(Keyword::Parameter)
     }
 
     /// It is a word that begins no clause.

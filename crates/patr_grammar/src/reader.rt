@@ -1,6 +1,6 @@
 //! Reading a grammar from lexemes.
 ghost use Rattle.std.specs.Prelude.{◌≡◌, ◌+◌, ◌<◌, ◌≤◌, [], length, map, IfOk, OnOk, false};
-ghost use Rattle.patr_model.specs.declared.front.Kind.TheVariants.{Arrow, OpenBrace};
+ghost use Rattle.patr_model.specs.declared.lookahead.Kind.TheVariants.{Arrow, OpenBrace};
 ghost use Rattle.patr_model.specs.declared.notation.What.TheVariants.{Symbol};
 ghost use Rattle.patr_model.specs.Lexemes.{is_kind, is_key, is_symbol, begins};
 ghost use Rattle.patr_model.specs.Parsing.{one, maybe};
@@ -12,7 +12,7 @@ ghost use Rattle.patr_grammar.specs.Views.{by_id, left_over, Gives, GivesAt, rig
 use crate::grammar::{Item, RuleText};
 use crate::head::Head;
 use crate::lexeme::Lexeme;
-use patr_model::{Key, Kind, What};
+use patr_model::{Keyword, Kind, What};
 use patr_text::{Fault, Id};
 use std::alloc::Global;
 
@@ -64,7 +64,7 @@ impl Reader<'_> {
     }
 
     /// The lexemes begin with this word of the notation.
-    fn begins_key(&self, key: Key) -> bool
+    fn begins_key(&self, key: Keyword) -> bool
         ensures { result ≡ begins (is_key by_id key) self.now.rest.now }
     {
         match self.rest {
@@ -88,7 +88,7 @@ impl Reader<'_> {
     }
 
     /// One word of the notation.
-    fn key(&mut self, key: Key, what: What) -> Result<Lexeme, Fault<Refusal>>
+    fn key(&mut self, key: Keyword, what: What) -> Result<Lexeme, Fault<Refusal>>
         ensures gives { Gives (λ t. t) result self.new.rest.now (one (is_key by_id key) what self.old.rest.now) }
         ensures shorter { OnOk result (length self.new.rest.now < length self.old.rest.now) }
     {
@@ -228,7 +228,7 @@ impl Reader<'_> {
         ensures gives { Gives rule_seen result self.new.rest.now (rule by_id stage self.old.rest.now) }
         ensures shorter { OnOk result (length self.new.rest.now < length self.old.rest.now) }
     {
-        let keyword = self.key(Key::Rule, What::Clause)?;
+        let keyword = self.key(Keyword::Rule, What::Clause)?;
         let name = self.rule_name()?;
         let mother = self.symbol()?;
         self.one(Kind::Arrow, What::Arrow)?;
@@ -254,9 +254,9 @@ impl Reader<'_> {
         ensures gives { Gives rule_view result self.new.rest.now (clause by_id stage [] self.old.rest.now) }
         ensures shorter { OnOk result (length self.new.rest.now < length self.old.rest.now) }
     {
-        if self.begins_key(Key::Let)
-            || self.begins_key(Key::Define)
-            || self.begins_key(Key::Parameter)
+        if self.begins_key(Keyword::Let)
+            || self.begins_key(Keyword::Define)
+            || self.begins_key(Keyword::Parameter)
         {
             return Err(Fault::Refused(Refusal::LaterForm));
         }

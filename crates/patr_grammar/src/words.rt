@@ -2,7 +2,7 @@
 ghost use Rattle.std.specs.Prelude.{◌≡◌, map};
 ghost use Rattle.patr_model.specs.Lexemes.{lower, is_keyword, key_of, all_digits, is_index, without_index};
 
-use patr_model::Key;
+use patr_model::Keyword;
 
 /// The text is this word of the notation, which has no capital letter.
 fn is_keyword(text: &str, word: &str) -> bool
@@ -13,39 +13,39 @@ fn is_keyword(text: &str, word: &str) -> bool
 }
 
 /// Which word of the notation a text is: a keyword, or `in` or `out` as they are written.
-pub fn key_of(text: &str) -> Key
+pub fn key_of(text: &str) -> Keyword
     ensures { result ≡ key_of text.now }
 {
     if is_keyword(text, "rule") {
-        Key::Rule
+        Keyword::Rule
     } else if is_keyword(text, "let") {
-        Key::Let
+        Keyword::Let
     } else if is_keyword(text, "define") {
-        Key::Define
+        Keyword::Define
     } else if is_keyword(text, "parameter") {
-        Key::Parameter
+        Keyword::Parameter
     } else if is_keyword(text, "be") {
-        Key::Be
+        Keyword::Be
     } else if is_keyword(text, "as") {
-        Key::As
+        Keyword::As
     } else if is_keyword(text, "is") {
-        Key::Is
+        Keyword::Is
     } else if is_keyword(text, "start") {
-        Key::Start
+        Keyword::Start
     } else if is_keyword(text, "symbol") {
-        Key::Symbol
+        Keyword::Symbol
     } else if is_keyword(text, "restrictor") {
-        Key::Restrictor
+        Keyword::Restrictor
     } else if is_keyword(text, "attribute") {
-        Key::Attribute
+        Keyword::Attribute
     } else if is_keyword(text, "order") {
-        Key::Order
+        Keyword::Order
     } else if text == "in" {
-        Key::In
+        Keyword::In
     } else if text == "out" {
-        Key::Out
+        Keyword::Out
     } else {
-        Key::Plain
+        Keyword::Plain
     }
 }
 

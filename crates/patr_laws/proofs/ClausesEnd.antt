@@ -1,7 +1,7 @@
 -- Each clause takes a token at least, so a list of clauses that is read leaves none.
 use Rattle.std.proofs.Common.{◌≡◌, ℕ, zero, suc, ◌≤◌, Bool, true, false, cond, ◌||◌, List, [], ◌∷◌, length, sym, ap, ◌∙◌, arith}
-use Rattle.patr_model.specs.declared.front.Kind.TheVariants.{Less, Greater, Equal, OpenBrace, CloseBrace, OpenParen, CloseParen, Slash, Colon, Dot, Arrow, Word}
-use Rattle.patr_model.specs.declared.notation.Key.TheVariants as key
+use Rattle.patr_model.specs.declared.lookahead.Kind.TheVariants.{Less, Greater, Equal, OpenBrace, CloseBrace, OpenParen, CloseParen, Slash, Colon, Dot, Arrow, Word}
+use Rattle.patr_model.specs.declared.notation.Keyword.TheVariants as key
 use Rattle.patr_model.specs.declared.notation.What.{What}
 use Rattle.patr_model.specs.declared.notation.What.TheVariants as what
 use Rattle.patr_model.specs.Lexemes.{Words, by_text, is_kind, is_key, is_symbol, begins}

@@ -1,6 +1,6 @@
 -- Steps of readings, and what is read of a rule behind each of its parts.
 use Rattle.std.proofs.Common.{◌≡◌, ℕ, List, ◌∷◌, Ok, Err, codes, refl, ap}
-use Rattle.patr_model.specs.declared.front.Kind.TheVariants.{Colon, Dot, Arrow}
+use Rattle.patr_model.specs.declared.lookahead.Kind.TheVariants.{Colon, Dot, Arrow}
 use Rattle.patr_model.specs.declared.notation.What.TheVariants as what
 use Rattle.patr_model.specs.Grammar.{Row}
 use Rattle.patr_model.specs.Tokens.{Place, Token, Scanned}

@@ -1,7 +1,7 @@
 -- Lists of equations are read exactly as they are spelled: those of a rule, and those of an entry's features.
 use Rattle.std.proofs.Common.{◌≡◌, ℕ, zero, suc, ◌<◌, ◌≤◌, Bool, true, false, cond, ◌&&◌, ◌||◌, List, [], ◌∷◌, ◌++◌, length, map, refl, sym, ap, ◌∙◌, subst, arith, append_assoc, append-nil, length-append, true≢false, Ok}
 use Rattle.std.specs.List.{flat_map}
-use Rattle.patr_model.specs.declared.front.Kind.TheVariants.{Less, OpenBrace}
+use Rattle.patr_model.specs.declared.lookahead.Kind.TheVariants.{Less, OpenBrace}
 use Rattle.patr_model.specs.declared.notation.What.{What}
 use Rattle.patr_model.specs.declared.notation.What.TheVariants as what
 use Rattle.patr_model.specs.Grammar.{Row}

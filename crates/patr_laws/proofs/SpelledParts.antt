@@ -2,10 +2,10 @@
 use Rattle.std.proofs.Common.{◌≡◌, inl, inr, ℕ, zero, suc, ◌+◌, ◌-◌, ◌≤◌, Bool, true, false, cond, not, ◌&&◌, ◌||◌, nat_eq, eqb-true, true≢false, List, [], ◌∷◌, ◌++◌, length, map, refl, sym, ap, ◌∙◌, subst, arith, append_assoc, length-append}
 use Rattle.std.specs.List.{AllByRecursion}
 use Rattle.std.proofs.lemmas.Bool.{and_parts, ne_eqb}
-use Rattle.patr_model.specs.declared.front.Kind.{Kind}
-use Rattle.patr_model.specs.declared.front.Kind.TheVariants.{OpenBrace, CloseBrace, OpenParen, Word}
-use Rattle.patr_model.specs.declared.notation.Key.{Key}
-use Rattle.patr_model.specs.declared.notation.Key.TheVariants as key
+use Rattle.patr_model.specs.declared.lookahead.Kind.{Kind}
+use Rattle.patr_model.specs.declared.lookahead.Kind.TheVariants.{OpenBrace, CloseBrace, OpenParen, Word}
+use Rattle.patr_model.specs.declared.notation.Keyword.{Keyword}
+use Rattle.patr_model.specs.declared.notation.Keyword.TheVariants as key
 use Rattle.patr_model.specs.declared.notation.What.TheVariants as what
 use Rattle.patr_model.specs.Grammar.{Row}
 use Rattle.patr_model.specs.Lexemes.{Words, kind_number, key_number, is_kind, is_key, is_clause_word, is_symbol, begins}
@@ -63,10 +63,10 @@ module _ {T W : Type 0} (words : Words T W) where
   pub other_kind : (a b : Kind) (t : T) → IsKind words a t → nat_eq (kind_number a) (kind_number b) ≡ false → is_kind words b t ≡ false
   other_kind a b t h e = ap (λ n. nat_eq n (kind_number b)) (eqb-true (kind_number (words.kind t)) (kind_number a) h) ∙ e
 
-  pub is_word : (k : Key) (t : T) → is_key words k t ≡ true → IsKind words Word t
+  pub is_word : (k : Keyword) (t : T) → is_key words k t ≡ true → IsKind words Word t
   is_word k t h = (and_parts (is_kind words Word t) (nat_eq (key_number (words.key t)) (key_number k)) h).0
 
-  pub other_key : (a b : Key) (t : T) → is_key words a t ≡ true → nat_eq (key_number a) (key_number b) ≡ false → is_key words b t ≡ false
+  pub other_key : (a b : Keyword) (t : T) → is_key words a t ≡ true → nat_eq (key_number a) (key_number b) ≡ false → is_key words b t ≡ false
   other_key a b t h e =
       let p = and_parts (is_kind words Word t) (nat_eq (key_number (words.key t)) (key_number a)) h in
       ap (λ c. c && nat_eq (key_number (words.key t)) (key_number b)) p.0 ∙ (ap (λ n. nat_eq n (key_number b)) (eqb-true (key_number (words.key t)) (key_number a) p.1) ∙ e)

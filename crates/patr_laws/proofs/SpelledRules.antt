@@ -1,8 +1,8 @@
 -- Rules are read exactly as they are spelled.
 use Rattle.std.proofs.Common.{◌≡◌, ◌⊎◌, inl, inr, ℕ, zero, suc, ◌≤◌, Bool, true, false, cond, not, ◌&&◌, ◌||◌, nat_eq, List, [], ◌∷◌, ◌++◌, length, map, refl, sym, ap, ◌∙◌, subst, arith, append_assoc, length-append}
-use Rattle.patr_model.specs.declared.front.Kind.{Kind}
-use Rattle.patr_model.specs.declared.front.Kind.TheVariants.{Less, OpenBrace, OpenParen, Colon, Dot, Arrow, Word}
-use Rattle.patr_model.specs.declared.notation.Key.TheVariants as key
+use Rattle.patr_model.specs.declared.lookahead.Kind.{Kind}
+use Rattle.patr_model.specs.declared.lookahead.Kind.TheVariants.{Less, OpenBrace, OpenParen, Colon, Dot, Arrow, Word}
+use Rattle.patr_model.specs.declared.notation.Keyword.TheVariants as key
 use Rattle.patr_model.specs.declared.notation.What.TheVariants as what
 use Rattle.patr_model.specs.Grammar.{Row}
 use Rattle.patr_model.specs.Lexemes.{Words, by_text, kind_number, is_kind, is_key, is_symbol, begins}

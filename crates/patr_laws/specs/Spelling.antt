@@ -7,9 +7,9 @@
 -- The laws: what is read is spelled so, and what is spelled so is read.
 use Rattle.std.specs.Prelude.{◌≡◌, ◌⊎◌, ◌↔◌, ℕ, suc, ◌≤◌, List, [], ◌∷◌, ◌++◌, map, length, Bool, true, false, None, Ok, IsUtf8, codes}
 use Rattle.std.specs.List.{AllByRecursion, flat_map}
-use Rattle.patr_model.specs.declared.front.Kind.{Kind}
-use Rattle.patr_model.specs.declared.front.Kind.TheVariants.{Less, Greater, Equal, OpenBrace, CloseBrace, Colon, Dot, Arrow, Word}
-use Rattle.patr_model.specs.declared.notation.Key.TheVariants as key
+use Rattle.patr_model.specs.declared.lookahead.Kind.{Kind}
+use Rattle.patr_model.specs.declared.lookahead.Kind.TheVariants.{Less, Greater, Equal, OpenBrace, CloseBrace, Colon, Dot, Arrow, Word}
+use Rattle.patr_model.specs.declared.notation.Keyword.TheVariants as key
 use Rattle.patr_model.specs.declared.notation.What.{What}
 use Rattle.patr_model.specs.Grammar.{Row, Done}
 use Rattle.patr_model.specs.Tokens.{Token, tokens_of, IsPlainWord}

@@ -1,7 +1,7 @@
 -- A scan from another byte finds the same tokens, each with another start.
 use Rattle.std.proofs.Common.{◌≡◌, ℕ, zero, suc, ◌+◌, ◌-◌, List, [], ◌∷◌, map, Ok, Err, refl}
-use Rattle.patr_model.specs.declared.front.Front.{Front}
-use Rattle.patr_model.specs.declared.front.Front.TheVariants.{Blank, Piece, Control}
+use Rattle.patr_model.specs.declared.lookahead.Lookahead.{Lookahead}
+use Rattle.patr_model.specs.declared.lookahead.Lookahead.TheVariants.{Blank, Piece, Control}
 use Rattle.patr_lexicon.proofs.Names.{Place, Token, Scanned, front, step, with_token, read_front, scan, scanned_tokens, anywhere}
 
 -- what a scan gives, wherever the tokens start
@@ -21,7 +21,7 @@ scan_anywhere (suc n) at at' p [] = refl
 scan_anywhere (suc n) at at' p (b ∷ bs) = scan_anywhere n (at + 1) (at' + 1) (step p b) bs
 scan_anywhere zero at at' p (b ∷ bs) = by (front (b ∷ bs)) (λ n. scan_anywhere n (at + 1) (at' + 1) (step p b) bs)
   where
-    by : (f : Front) → ((n : ℕ) → scanned_anywhere (scan n (at + 1) (step p b) bs) ≡ scanned_anywhere (scan n (at' + 1) (step p b) bs))
+    by : (f : Lookahead) → ((n : ℕ) → scanned_anywhere (scan n (at + 1) (step p b) bs) ≡ scanned_anywhere (scan n (at' + 1) (step p b) bs))
         → scanned_anywhere (read_front f at p (b ∷ bs) (λ n. scan n (at + 1) (step p b) bs)) ≡ scanned_anywhere (read_front f at' p (b ∷ bs) (λ n. scan n (at' + 1) (step p b) bs))
     by (Blank n) h = h (n - 1)
     by (Piece k n) h = token_anywhere _ _ (scan (n - 1) (at + 1) (step p b) bs) (scan (n - 1) (at' + 1) (step p b) bs) refl (h (n - 1))

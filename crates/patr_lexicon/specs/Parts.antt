@@ -3,8 +3,8 @@ use Rattle.std.specs.Prelude.{◌≢◌, ℕ, ◌+◌, ◌<◌, List, [], ◌∷
 use Rattle.std.specs.Str.{IsCharBoundary}
 use Rattle.std.specs.String.{string_bytes}
 use denote.Ref.{Bor}
-use Rattle.patr_model.specs.declared.field.LineKind.{LineKind}
-use Rattle.patr_model.specs.declared.field.LineKind.TheVariants.{Begins}
+use Rattle.patr_model.specs.declared.field.LexiconLine.{LexiconLine}
+use Rattle.patr_model.specs.declared.field.LexiconLine.TheVariants.{Begins}
 use Rattle.patr_model.specs.Session.{pieces}
 use Rattle.patr_model.specs.Tokens.{Place}
 use Rattle.patr_model.specs.LexiconLines.{Piece}
@@ -37,7 +37,7 @@ rest_len None = 0
 rest_len (Some rest) = 1 + length rest.now
 
 -- a field's text begins where a character does
-abbrev pub IsCut : List ℕ → LineKind → Type 0
+abbrev pub IsCut : List ℕ → LexiconLine → Type 0
 IsCut text (Begins m n) = IsCharBoundary text n
 IsCut text _ = Unit {0}
 

@@ -9,7 +9,7 @@ ghost use Rattle.patr_model.specs.LexiconText.{trimmed};
 ghost use Rattle.patr_lexicon.specs.Reading.{place_at};
 ghost use Rattle.patr_lexicon.specs.Parts.{NoLf, rest_lines, rest_text, rest_len, IsCut, past, place_seen};
 
-use patr_model::{LineKind, Marker};
+use patr_model::{LexiconLine, Marker};
 
 /// A place in a lexicon.
 #[derive(Clone, Copy)]
@@ -92,20 +92,20 @@ fn marker_of(text: &[u8]) -> Marker
 }
 
 /// What a line is, without its LF.
-pub fn kind_of(line: &str) -> LineKind
+pub fn kind_of(line: &str) -> LexiconLine
     ensures kind { result ≡ kind line.now }
     ensures cut { IsCut line.now result }
 {
     let text = line.as_bytes();
     if is_white_line(text) || is_comment(text) {
-        return LineKind::Ignored;
+        return LexiconLine::Ignored;
     }
     if !begins_with(b'\\', text) {
-        return LineKind::Text;
+        return LexiconLine::Text;
     }
     let rest = &text[1..];
     let len = marker_len(rest);
-    LineKind::Begins(marker_of(&rest[..len]), 1 + len)
+    LexiconLine::Begins(marker_of(&rest[..len]), 1 + len)
 }
 
 /// The first line of a text without its LF, and what stands behind the LF, where there is one.
@@ -159,24 +159,24 @@ fn reads_comments(marker: Marker) -> bool
 
 /// How many bytes of a line of this kind stand before its first bad character, in a field that reads
 /// comments or not.
-fn control_in(comments: bool, line: &str, kind: LineKind) -> Option<usize>
+fn control_in(comments: bool, line: &str, kind: LexiconLine) -> Option<usize>
     ensures place { (n : ℕ) → option_map (past n 1) result ≡ control_in comments (line_at n line.now) kind }
     ensures within { IfSome result (λ n. n < length line.now) }
 {
     match kind {
-        LineKind::Ignored => None,
-        LineKind::Begins(marker, _) => control(reads_comments(marker), line.as_bytes()),
-        LineKind::Text => control(comments, line.as_bytes()),
+        LexiconLine::Ignored => None,
+        LexiconLine::Begins(marker, _) => control(reads_comments(marker), line.as_bytes()),
+        LexiconLine::Text => control(comments, line.as_bytes()),
     }
 }
 
 /// Whether comments are read behind a line of this kind.
-fn comments_after(comments: bool, kind: LineKind) -> bool
+fn comments_after(comments: bool, kind: LexiconLine) -> bool
     ensures { result ≡ comments_after comments kind }
 {
     match kind {
-        LineKind::Begins(marker, _) => reads_comments(marker),
-        LineKind::Ignored | LineKind::Text => comments,
+        LexiconLine::Begins(marker, _) => reads_comments(marker),
+        LexiconLine::Ignored | LexiconLine::Text => comments,
     }
 }
 

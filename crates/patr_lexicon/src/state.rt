@@ -9,7 +9,7 @@ ghost use Rattle.patr_lexicon.specs.States.{Follows, goes_on, ended_before, reco
 use crate::lexicon::LexiconCause;
 use crate::line::{Piece, kind_of};
 use crate::record::Record;
-use patr_model::{LineKind, Marker};
+use patr_model::{LexiconLine, Marker};
 use patr_text::Fault;
 use std::alloc::Global;
 
@@ -128,11 +128,11 @@ impl<'a> State<'a> {
         ensures laid { (text : List ℕ) → StandsAt text start (line_at number line.now) → IsLaidBefore text start (record_of self.entry) → IfOk result (λ s. IsLaidBefore text (start + length line.now) s.ended × IsLaidBefore text (start + length line.now) (record_of s.state)) }
     {
         match kind_of(line) {
-            LineKind::Ignored => Ok(Step {
+            LexiconLine::Ignored => Ok(Step {
                 state: self,
                 ended: None,
             }),
-            LineKind::Begins(marker, len) => {
+            LexiconLine::Begins(marker, len) => {
                 let piece = Piece {
                     start: start + len,
                     line: number,
@@ -141,7 +141,7 @@ impl<'a> State<'a> {
                 };
                 self.begins(alloc, marker, piece)
             }
-            LineKind::Text => {
+            LexiconLine::Text => {
                 let piece = Piece {
                     start,
                     line: number,

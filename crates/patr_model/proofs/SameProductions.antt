@@ -1,10 +1,10 @@
 -- Productions by words of two types that agree: each reads what belongs together.
 use Rattle.std.proofs.Common.{◌≡◌, ℕ, zero, suc, ◌-◌, Bool, true, false, cond, not, nat_eq, List, [], ◌∷◌, length, refl, ap, ◌∙◌, subst}
 use Rattle.std.specs.List.{list_any}
-use Rattle.patr_model.specs.declared.front.Kind.{Kind}
-use Rattle.patr_model.specs.declared.front.Kind.TheVariants.{Less, Greater, Equal, OpenBrace, CloseBrace, OpenParen, CloseParen, Slash, Colon, Dot, Arrow, Word}
-use Rattle.patr_model.specs.declared.notation.Key.{Key}
-use Rattle.patr_model.specs.declared.notation.Key.TheVariants as key
+use Rattle.patr_model.specs.declared.lookahead.Kind.{Kind}
+use Rattle.patr_model.specs.declared.lookahead.Kind.TheVariants.{Less, Greater, Equal, OpenBrace, CloseBrace, OpenParen, CloseParen, Slash, Colon, Dot, Arrow, Word}
+use Rattle.patr_model.specs.declared.notation.Keyword.{Keyword}
+use Rattle.patr_model.specs.declared.notation.Keyword.TheVariants as key
 use Rattle.patr_model.specs.declared.notation.What.{What}
 use Rattle.patr_model.specs.declared.notation.What.TheVariants as what
 use Rattle.patr_model.specs.Grammar.{Row}
@@ -89,7 +89,7 @@ module _ {T U W V : Type 0} (R : T → U → Type 0) (S : W → V → Type 0) wh
     pub kind_agrees : (k : Kind) → SameTest R (is_kind words k) (is_kind others k)
     kind_agrees k t u r = ap (λ x. nat_eq (kind_number x) (kind_number k)) (same.kind t u r)
 
-    pub key_agrees : (k : Key) → SameTest R (is_key words k) (is_key others k)
+    pub key_agrees : (k : Keyword) → SameTest R (is_key words k) (is_key others k)
     key_agrees k t u r = both_agree (kind_agrees Word t u r) (ap (λ x. nat_eq (key_number x) (key_number k)) (same.key t u r))
 
     clause_word_agrees : SameTest R (is_clause_word words) (is_clause_word others)

@@ -16,8 +16,8 @@ use Rattle.patr_model.specs.Text.{Look, Outline, outline_text, comes_before, in_
 use Rattle.patr_model.specs.Stack.{Event, OfAtom, OfAgain, Opens, OfArc, Closes, events, opened, met_again, event_text, Frame, frame, begun, rest_of, building, fed}
 use Rattle.patr_model.specs.Pairs.{Pair, pair, Waits, IsOnPairs, set_image, pairs_of, left_over}
 use Rattle.patr_model.specs.Items.{Expect, AValue, Follows, item_of, item_front, text_of}
-use Rattle.patr_model.specs.declared.front.Kind.TheVariants.{Word}
-use Rattle.patr_model.specs.declared.front.Front.TheVariants.{Piece}
+use Rattle.patr_model.specs.declared.lookahead.Kind.TheVariants.{Word}
+use Rattle.patr_model.specs.declared.lookahead.Lookahead.TheVariants.{Piece}
 use Rattle.patr_model.specs.Tokens.{Place, front, scan}
 use Rattle.patr_model.specs.Reading.{Built, built, HasText, parsed, read}
 

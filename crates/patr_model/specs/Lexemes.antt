@@ -1,10 +1,10 @@
 -- What the notation of grammars needs to know of tokens.
 use Rattle.std.specs.Prelude.{ℕ, ◌+◌, List, [], ◌∷◌, map, Bool, true, false, cond, not, ◌&&◌, ◌||◌, nat_eq, nat_le, codes}
 use Rattle.patr_model.specs.Bytes.{same_text}
-use Rattle.patr_model.specs.declared.front.Kind.{Kind}
-use Rattle.patr_model.specs.declared.front.Kind.TheVariants.{Less, Greater, Equal, OpenBrace, CloseBrace, OpenParen, CloseParen, OpenBracket, CloseBracket, Slash, Colon, Dot, Arrow, Word}
-use Rattle.patr_model.specs.declared.notation.Key.{Key}
-use Rattle.patr_model.specs.declared.notation.Key.TheVariants as key
+use Rattle.patr_model.specs.declared.lookahead.Kind.{Kind}
+use Rattle.patr_model.specs.declared.lookahead.Kind.TheVariants.{Less, Greater, Equal, OpenBrace, CloseBrace, OpenParen, CloseParen, OpenBracket, CloseBracket, Slash, Colon, Dot, Arrow, Word}
+use Rattle.patr_model.specs.declared.notation.Keyword.{Keyword}
+use Rattle.patr_model.specs.declared.notation.Keyword.TheVariants as key
 use Rattle.patr_model.specs.Tokens.{Place, Token}
 
 -- ---- words of the notation
@@ -18,7 +18,7 @@ abbrev pub is_keyword : List ℕ → List ℕ → Bool
 is_keyword word text = same_text (map lower text) word
 
 -- which word of the notation a text is: a keyword, or `in` or `out` as they are written
-abbrev pub key_of : List ℕ → Key
+abbrev pub key_of : List ℕ → Keyword
 key_of text =
     cond (is_keyword (codes "rule") text) key.Rule (cond (is_keyword (codes "let") text) key.Let (cond (is_keyword (codes "define") text) key.Define
     (cond (is_keyword (codes "parameter") text) key.Parameter (cond (is_keyword (codes "be") text) key.Be (cond (is_keyword (codes "as") text) key.As
@@ -54,7 +54,7 @@ without_index (b ∷ bs) = b ∷ after_first bs
 -- How tokens of the type T are read, whose texts are of the type W: as texts, or as numbers of texts. A token has a kind, a text, which may be a word of the notation, the category of the symbol that it may be, and a place; and texts are compared.
 pub record Words (T W : Type 0) : Type 0 where
   pub kind : T → Kind
-  pub key : T → Key
+  pub key : T → Keyword
   pub word : T → W
   pub category : T → W
   pub place : T → Place
@@ -84,7 +84,7 @@ kind_number Arrow = 12
 kind_number Word = 13
 
 -- the words of the notation by number
-abbrev pub key_number : Key → ℕ
+abbrev pub key_number : Keyword → ℕ
 key_number key.Plain = 0
 key_number key.Rule = 1
 key_number key.Let = 2
@@ -107,7 +107,7 @@ module _ {T W : Type 0} (words : Words T W) where
   is_kind k t = nat_eq (kind_number (words.kind t)) (kind_number k)
 
   -- the token is this word of the notation
-  abbrev pub is_key : Key → T → Bool
+  abbrev pub is_key : Keyword → T → Bool
   is_key k t = is_kind Word t && nat_eq (key_number (words.key t)) (key_number k)
 
   -- the token is a word that begins a clause

@@ -3,8 +3,8 @@ use Rattle.std.specs.Prelude.{ℕ, suc, ◌+◌, List, [], ◌∷◌, take, drop
 use Rattle.std.specs.List.{prefix_len, list_all}
 use Rattle.patr_model.specs.declared.field.Marker.{Marker}
 use Rattle.patr_model.specs.declared.field.Marker.TheVariants as marker
-use Rattle.patr_model.specs.declared.field.LineKind.{LineKind}
-use Rattle.patr_model.specs.declared.field.LineKind.TheVariants.{Ignored, Begins, Text}
+use Rattle.patr_model.specs.declared.field.LexiconLine.{LexiconLine}
+use Rattle.patr_model.specs.declared.field.LexiconLine.TheVariants.{Ignored, Begins, Text}
 use Rattle.patr_model.specs.Session.{is_blank, pieces}
 use Rattle.patr_model.specs.Tokens.{Place, is_control}
 
@@ -59,11 +59,11 @@ marker_of (b ∷ []) = cond (nat_eq b 119) marker.Word (cond (nat_eq b 99) marke
 marker_of _ = marker.Other
 
 -- a field begins: its marker is the run of characters behind the `\` up to an edge or the end
-abbrev pub begun : List ℕ → LineKind
+abbrev pub begun : List ℕ → LexiconLine
 begun rest = Begins (marker_of (take (marker_len rest) rest)) (1 + marker_len rest)
 
 -- what a line is
-abbrev pub kind : List ℕ → LineKind
+abbrev pub kind : List ℕ → LexiconLine
 kind text = cond (is_white_line text || is_comment text) Ignored (cond (begins_with 92 text) (begun (drop 1 text)) Text)
 
 -- the piece behind so many bytes
@@ -88,13 +88,13 @@ reads_comments marker.Features = true
 reads_comments _ = false
 
 -- the first control character of a line of this kind, in a field that reads comments or not
-abbrev pub control_in : Bool → Piece → LineKind → Option Place
+abbrev pub control_in : Bool → Piece → LexiconLine → Option Place
 control_in comments l Ignored = None
 control_in comments l (Begins m n) = control (reads_comments m) l.place l.text
 control_in comments l Text = control comments l.place l.text
 
 -- whether comments are read behind a line of this kind
-abbrev pub comments_after : Bool → LineKind → Bool
+abbrev pub comments_after : Bool → LexiconLine → Bool
 comments_after comments Ignored = comments
 comments_after comments (Begins m n) = reads_comments m
 comments_after comments Text = comments
@@ -118,7 +118,7 @@ pub record Fields : Type 0 where
   pub fields : List Field
 
 -- a line of this kind in front of fields
-abbrev pub line_before : Piece → LineKind → Fields → Fields
+abbrev pub line_before : Piece → LexiconLine → Fields → Fields
 line_before l Ignored fs = fs
 line_before l (Begins m n) fs = record { pieces = []; fields = record { marker = m; line = l.place.line; pieces = behind n l ∷ fs.pieces } ∷ fs.fields }
 line_before l Text fs = record { pieces = l ∷ fs.pieces; fields = fs.fields }

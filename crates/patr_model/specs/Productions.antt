@@ -3,8 +3,8 @@
 --     grammar s cat ts                            what tokens stand for, as far as the stage s has its forms
 use Rattle.std.specs.Prelude.{ℕ, zero, suc, ◌-◌, List, [], ◌∷◌, ◌++◌, length, map, Bool, true, false, cond, not, ◌&&◌, ◌||◌, nat_eq, Option, Some, None}
 use Rattle.std.specs.List.{list_any}
-use Rattle.patr_model.specs.declared.front.Kind.TheVariants.{Less, Greater, Equal, OpenBrace, CloseBrace, OpenParen, CloseParen, Slash, Colon, Dot, Arrow, Word}
-use Rattle.patr_model.specs.declared.notation.Key.TheVariants as key
+use Rattle.patr_model.specs.declared.lookahead.Kind.TheVariants.{Less, Greater, Equal, OpenBrace, CloseBrace, OpenParen, CloseParen, Slash, Colon, Dot, Arrow, Word}
+use Rattle.patr_model.specs.declared.notation.Keyword.TheVariants as key
 use Rattle.patr_model.specs.declared.notation.What.{What}
 use Rattle.patr_model.specs.declared.notation.What.TheVariants as what
 use Rattle.patr_model.specs.Grammar.{Row, Rows, Done, One, OneOf, Optional, None', Or}

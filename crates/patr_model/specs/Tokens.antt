@@ -3,10 +3,10 @@
 --     scan skip at p bytes   the tokens of the bytes, or the place of the first character that is refused
 use Rattle.std.specs.Prelude.{◌≡◌, ℕ, zero, suc, ◌+◌, ◌-◌, List, [], ◌∷◌, take, Bool, false, cond, not, ◌&&◌, ◌||◌, nat_eq, nat_lt, Option, Some, None, Result, Ok, Err}
 use Rattle.std.specs.List.{AllByRecursion, prefix_len}
-use Rattle.patr_model.specs.declared.front.Kind.{Kind}
-use Rattle.patr_model.specs.declared.front.Kind.TheVariants.{Less, Greater, Equal, OpenBrace, CloseBrace, OpenParen, CloseParen, OpenBracket, CloseBracket, Slash, Colon, Dot, Arrow, Word}
-use Rattle.patr_model.specs.declared.front.Front.{Front}
-use Rattle.patr_model.specs.declared.front.Front.TheVariants.{Blank, Piece, Control}
+use Rattle.patr_model.specs.declared.lookahead.Kind.{Kind}
+use Rattle.patr_model.specs.declared.lookahead.Kind.TheVariants.{Less, Greater, Equal, OpenBrace, CloseBrace, OpenParen, CloseParen, OpenBracket, CloseBracket, Slash, Colon, Dot, Arrow, Word}
+use Rattle.patr_model.specs.declared.lookahead.Lookahead.{Lookahead}
+use Rattle.patr_model.specs.declared.lookahead.Lookahead.TheVariants.{Blank, Piece, Control}
 use Rattle.patr_model.specs.Text.{is_plain, begins_with_greater}
 
 -- a line from 1, and a column: 1 and the number of bytes before it on its line
@@ -69,12 +69,12 @@ abbrev pub line_len : List ℕ → ℕ
 line_len bs = prefix_len (λ b. not (nat_eq b 10)) bs
 
 -- one character as a token: of its kind, or a Word where it has none
-abbrev pub piece : Option Kind → Front
+abbrev pub piece : Option Kind → Lookahead
 piece None = Piece Word 1
 piece (Some k) = Piece k 1
 
 -- What stands at the front, and how many bytes it has: white space, a comment up to its line's end, an Arrow, a Word, a control character, or another character alone.
-abbrev pub front : List ℕ → Front
+abbrev pub front : List ℕ → Lookahead
 front [] = Blank 0
 front (b ∷ bs) =
     cond (is_white b) (Blank 1)
@@ -114,7 +114,7 @@ with_token t (Ok ts) = Ok (t ∷ ts)
 with_token t (Err p) = Err p
 
 -- what is read where this stands at the front of the bytes, and rest is what is read behind it, where so many more bytes belong to it
-abbrev pub read_front : Front → ℕ → Place → List ℕ → (ℕ → Scanned) → Scanned
+abbrev pub read_front : Lookahead → ℕ → Place → List ℕ → (ℕ → Scanned) → Scanned
 read_front (Blank n) at p bytes rest = rest (n - 1)
 read_front (Piece k n) at p bytes rest = with_token (record { kind = k; text = take n bytes; start = at; place = p }) (rest (n - 1))
 read_front Control at p bytes rest = Err p

@@ -17,7 +17,7 @@ pub enum Marker {
 
 /// What a line of a lexicon is.
 #[derive(Clone, Copy, Debug, PartialEq, Eq)]
-pub enum LineKind {
+pub enum LexiconLine {
     /// White space alone, or a comment.
     Ignored,
     /// A field begins, and its text stands behind so many bytes.

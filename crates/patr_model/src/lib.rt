@@ -3,7 +3,7 @@
 
 mod builds;
 mod field;
-mod front;
+mod lookahead;
 mod notation;
 
 ghost use Rattle.patr_model.specs.Laws.{SubsumptionIsOrder, UnifiersAreSame, LeastValuesExtend, UnifierIsLeastValue, SameAsUnifier, NoMoreThanAll, OneReply, PlainIsSolvable, CategoriesAreOneAll, CanonicalTexts, TextsAreRead, ReadingIsBack, LeastTextsAreOneAll, WalksAreWhole, Printing, WalksByStack, MapsByPairsAll, BuildsByStack, SortedIsInOrder, ReadsByItemsAll, TextsAreLocal};
@@ -22,9 +22,9 @@ pub use builds::{
     builds_ignore_numbers, builds_ignore_words, builds_state_categories, following_is_category,
     solved_go_by_category,
 };
-pub use field::{LineKind, Marker};
-pub use front::{Front, Kind};
-pub use notation::{Key, What};
+pub use field::{LexiconLine, Marker};
+pub use lookahead::{Kind, Lookahead};
+pub use notation::{Keyword, What};
 
 /// Subsumption is an order.
 pub fn subsumption_is_order()

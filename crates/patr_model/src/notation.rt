@@ -2,7 +2,7 @@
 
 /// Which word of the notation a text is.
 #[derive(Clone, Copy, Debug, PartialEq, Eq)]
-pub enum Key {
+pub enum Keyword {
     /// None of the others.
     Plain,
     /// `Rule`, in any case of its letters.

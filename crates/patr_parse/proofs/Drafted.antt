@@ -20,7 +20,7 @@ use Rattle.patr_parse.proofs.Pushing.{sound_draft}
 use Rattle.patr_parse.proofs.Members.{among}
 use Rattle.patr_parse.proofs.Paired.{partners_few}
 use Rattle.patr_parse.proofs.Placed.{block_behind, block_moved, home, place, ref_moved}
-use Rattle.patr_parse.proofs.Moved.{arc_moved, moved}
+use Rattle.patr_parse.proofs.Renumbered.{arc_moved, moved}
 use Rattle.patr_parse.proofs.Standing.{derivations_made, passes_large, passes_made, round_done, stands_pushed, stands_task}
 use Rattle.patr_parse.proofs.Tasks.{trees_length}
 

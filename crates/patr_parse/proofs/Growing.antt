@@ -10,7 +10,7 @@ use Rattle.patr_arena.specs.declared.value.Value.TheVariants as value
 use Rattle.patr_chart.specs.declared.edge.EdgeKind.TheVariants.{Entry}
 use Rattle.patr_chart.specs.Charted.{tree}
 use Rattle.patr_parse.specs.Found.{IsRootOf, IsItemRoot}
-use Rattle.patr_parse.proofs.Moved.{counts_longer, keeps_longer}
+use Rattle.patr_parse.proofs.Renumbered.{counts_longer, keeps_longer}
 
 -- ---- more nodes
 

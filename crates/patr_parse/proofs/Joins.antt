@@ -23,7 +23,7 @@ use Rattle.patr_parse.proofs.Pairs.{tree_in}
 use Rattle.patr_parse.proofs.Longer.{unifier_sides}
 use Rattle.patr_parse.proofs.Counted.{counts_below}
 use Rattle.patr_parse.proofs.Growing.{back, extends_on}
-use Rattle.patr_parse.proofs.Moved.{IsMoved, moved, arc_moved, counts_home, keeps_moved, unifier_moved}
+use Rattle.patr_parse.proofs.Renumbered.{IsRenumbered, moved, arc_moved, counts_home, keeps_moved, unifier_moved}
 use Rattle.patr_parse.proofs.Placed.{block_behind, block_moved, home, place, ref_moved}
 
 -- the two edges that may be decided

@@ -1,6 +1,6 @@
 pub mod Names
 pub mod Longer
-pub mod Moved
+pub mod Renumbered
 pub mod Counted
 pub mod Reached
 pub mod Room

@@ -10,7 +10,7 @@ use Rattle.patr_arena.specs.declared.value.Ref.TheVariants as ref
 use Rattle.patr_arena.specs.Shown.{ref_of, arc_from, arcs_from}
 use Rattle.patr_arena.specs.Blocks.{AllOldHeld, OldIsHeld, OldRefIsHeld}
 use Rattle.patr_arena.proofs.Showing.{same_number}
-use Rattle.patr_parse.proofs.Moved.{IsMoved, moved}
+use Rattle.patr_parse.proofs.Renumbered.{IsRenumbered, moved}
 
 pub block_behind : (v : Shown) (block : List (List Feature)) → Extends v (with_block v block)
 block_behind v block = record { sizes = (length block ∷ [], refl); structure = (map (arcs_from v (length v.sizes)) block, refl) }
@@ -115,7 +115,7 @@ module _ (v w : Shown) (sv : IsShown v) (sw : IsShown w) (e : Extends v w) (node
       get_or_append_left w.structure (map (arcs_from w (length w.sizes)) nodes) [] n (omega (arith, q, longer))
       ∙ (ap (λ s. get_or s n []) e.structure.1 ∙ (get_or_append_left v.structure e.structure.0 [] n q ∙ sym (get_or_append_left v.structure (map (arcs_from v (length v.sizes)) nodes) [] n q)))
 
-  pub block_moved : IsMoved P U W place home
+  pub block_moved : IsRenumbered P U W place home
   block_moved = record {
     there = λ n q. elim (kind n q) as (λ _. (place n < length W) × (home (place n) ≡ n)) [
       | inl l ↦ (

@@ -7,7 +7,7 @@ use Rattle.patr_parse.proofs.Counted.{counts_below}
 use Rattle.patr_parse.proofs.Growing.{back, extends_on}
 use Rattle.patr_parse.proofs.Joins.{least_by, next_item, root_of_edge, slot_reached, sum_of_sizes}
 use Rattle.patr_parse.proofs.Longer.{unifier_sides}
-use Rattle.patr_parse.proofs.Moved.{IsMoved, moved, arc_moved, counts_home, keeps_moved, unifier_moved}
+use Rattle.patr_parse.proofs.Renumbered.{IsRenumbered, moved, arc_moved, counts_home, keeps_moved, unifier_moved}
 use Rattle.patr_parse.proofs.Placed.{block_behind, block_moved, home, place, ref_moved}
 
 -- a draft's edge is sound once its nodes stand behind some others
@@ -41,7 +41,7 @@ module _ (g : Rules) (s : Stored) (v : Shown) (limit words : ℕ) (es : List Edg
   un : IsUnifier S l path S r U x
   un = subst (λ z. IsUnifier S z path S r U x) (sym h.left_is) h.made.unifier
 
-  is : IsMoved (length S) U w.structure f (home v u sv su e d.block h.made.old)
+  is : IsRenumbered (length S) U w.structure f (home v u sv su e d.block h.made.old)
   is = block_moved v u sv su e d.block h.made.old
 
   su' : IsStructure U

@@ -1,7 +1,7 @@
 use Rattle.std.proofs.Common.{◌≡◌, ℕ, ◌+◌, List, length, IfOk, sym, ap, ◌∙◌, subst, arith, length-drop}
 use Rattle.patr_lexicon.proofs.Names.{err_from_is_err_and, kind, line_at, line_before, StandsAt, IsLaidBefore, place_at, FailsFor, goes_on, record_of}
-use Rattle.patr_model.specs.declared.field.LineKind.{LineKind}
-use Rattle.patr_model.specs.declared.field.LineKind.TheVariants.{Text}
+use Rattle.patr_model.specs.declared.field.LexiconLine.{LexiconLine}
+use Rattle.patr_model.specs.declared.field.LexiconLine.TheVariants.{Text}
 use Rattle.patr_lexicon.proofs.Places.{stands_behind, record_later}
 use Rattle.patr_lexicon.proofs.state.State.line.Goals as goal
 
@@ -10,7 +10,7 @@ returns-in_err-text-in-Text-clause-reads c = λ fs.
     let p = err_from_is_err_and c.from_residual.result c.from_residual.ensures.1 in
     let e = c.in_err-text-in-Text.field-0.0 in
     let is : kind c.args.line.now ≡ Text = sym c.kind_of.ensures.kind ∙ c.in-Text.is in
-    rw (p.1, p.2) (subst (λ (k : LineKind). FailsFor (goes_on c.args.self (line_before (line_at c.args.number c.args.line.now) k fs)) e) (sym is) (c.in_err-text-in-Text.ensures.reads fs))
+    rw (p.1, p.2) (subst (λ (k : LexiconLine). FailsFor (goes_on c.args.self (line_before (line_at c.args.number c.args.line.now) k fs)) e) (sym is) (c.in_err-text-in-Text.ensures.reads fs))
 
 pub returns-in-Begins-clause-laid : goal.returns-in-Begins-clause-laid
 returns-in-Begins-clause-laid c = λ text stands laid.

@@ -18,14 +18,14 @@ moved f (Atom c) = Atom c
 moved f (Node n) = Node (f n)
 
 -- each node of U stands in W at its place f, from which h leads back; the first b nodes stand at their own
-pub record IsMoved (b : ℕ) (U W : Structure) (f h : ℕ → ℕ) : Type 0 where
+pub record IsRenumbered (b : ℕ) (U W : Structure) (f h : ℕ → ℕ) : Type 0 where
   pub there : (n : ℕ) → n < length U → (f n < length W) × (h (f n) ≡ n)
   pub fixed : (n : ℕ) → n < b → f n ≡ n
   pub arcs : (n : ℕ) → n < length U → (a : ℕ) → arc W (Node (f n)) a ≡ option_map (moved f) (arc U (Node n) a)
   pub lengths : (n : ℕ) → n < length U → length (own U n) ≡ length (own W (f n))
 
 -- with more nodes behind, the others stay where they are
-pub stays : (S N : Structure) → IsMoved (length S) S (S ++ N) (λ n. n) (λ n. n)
+pub stays : (S N : Structure) → IsRenumbered (length S) S (S ++ N) (λ n. n) (λ n. n)
 stays S N = record {
   there = λ n q. (omega (arith, q, length-append S N), refl);
   fixed = λ n q. refl;
@@ -38,7 +38,7 @@ stays S N = record {
     same (Some (Atom c)) = refl
     same (Some (Node n)) = refl
 
-pub arc_moved : (b : ℕ) (U W : Structure) (f h : ℕ → ℕ) → IsMoved b U W f h → (x : Value) → IsValue U x → (a : ℕ) → arc W (moved f x) a ≡ option_map (moved f) (arc U x a)
+pub arc_moved : (b : ℕ) (U W : Structure) (f h : ℕ → ℕ) → IsRenumbered b U W f h → (x : Value) → IsValue U x → (a : ℕ) → arc W (moved f x) a ≡ option_map (moved f) (arc U x a)
 arc_moved b U W f h m (Atom c) q a = refl
 arc_moved b U W f h m (Node n) q a = m.arcs n q a
 
@@ -55,7 +55,7 @@ total_mapped : (h f g : ℕ → ℕ) (ks : List ℕ) → ((k : ℕ) → IsIn ks 
 total_mapped h f g [] same = refl
 total_mapped h f g (k ∷ ks) same = let here = same k (inl refl) in let rest = total_mapped h f g ks (λ j i. same j (inr i)) in omega (arith, here, rest)
 
-module _ (b : ℕ) (U W : Structure) (f h : ℕ → ℕ) (m : IsMoved b U W f h) (su : IsStructure U) (sw : IsStructure W) where
+module _ (b : ℕ) (U W : Structure) (f h : ℕ → ℕ) (m : IsRenumbered b U W f h) (su : IsStructure U) (sw : IsStructure W) where
   -- ---- the maps to and from
 
   to : ℕ → Option Value

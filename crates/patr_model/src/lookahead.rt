@@ -35,7 +35,7 @@ pub enum Kind {
 
 /// What stands at the front of some bytes, and how many bytes it has.
 #[derive(Clone, Copy, Debug, PartialEq, Eq)]
-pub enum Front {
+pub enum Lookahead {
     /// White space, or a comment.
     Blank(usize),
     /// A token.
