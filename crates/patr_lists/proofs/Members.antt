@@ -1,6 +1,5 @@
 -- Members of lists, and lists without repeats.
 use Rattle.std.proofs.Common.{◌≡◌, ◌⊎◌, inl, inr, ℕ, zero, suc, ◌<◌, ◌≤◌, List, [], ◌∷◌, ◌++◌, length, map, take, get_or, refl, sym, ap, ◌∙◌, arith, subst}
-use Rattle.std.proofs.lemmas.Bool.{cases_eq}
 use Rattle.std.specs.List.{Contains}
 use Rattle.patr_lists.specs.Members.{IsIn, NoRepeats}
 
@@ -135,13 +134,11 @@ no_longer (x ∷ xs) ys n sub =
     let rest = no_longer xs (without ys x h) n.1 (λ y k. stays_in ys x y h (λ e. n.0 (subst (IsIn xs) (sym e) k)) (sub y (inr k))) in
     omega (arith, rest, without_length ys x h)
 
--- ---- numbers
+-- ---- where two members are known to be one or not
 
-pub in_or_not : (xs : List ℕ) (k : ℕ) → IsIn xs k ⊎ (IsIn xs k → ⊥)
-in_or_not [] k = inr (λ h. h)
-in_or_not (x ∷ xs) k = go (cases_eq x k) (in_or_not xs k)
-  where
-    go : (x ≡ k) ⊎ (x ≡ k → ⊥) → IsIn xs k ⊎ (IsIn xs k → ⊥) → IsIn (x ∷ xs) k ⊎ (IsIn (x ∷ xs) k → ⊥)
-    go (inl e) r = inl (inl e)
-    go (inr n) (inl h) = inl (inr h)
-    go (inr n) (inr m) = inr (λ h. elim h [ inl e ↦ n e | inr i ↦ m i ])
+pub in_or_not : {X : Type 0} (same : (x y : X) → (x ≡ y) ⊎ (x ≡ y → ⊥)) (xs : List X) (x : X) → IsIn xs x ⊎ (IsIn xs x → ⊥)
+in_or_not same [] x = inr (λ h. h)
+in_or_not same (y ∷ xs) x = elim (same y x) [
+  | inl e ↦ inl (inl e)
+  | inr n ↦ elim (in_or_not same xs x) [ inl h ↦ inl (inr h) | inr m ↦ inr (λ h. elim h [ inl e ↦ n e | inr i ↦ m i ]) ]
+]

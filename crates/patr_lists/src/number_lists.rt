@@ -45,7 +45,7 @@ impl NumberLists {
     /// Puts empty lists behind the others, up to that of a place. Fails for want of memory alone.
     pub fn grow(&mut self, alloc: Global, place: usize) -> Result<(), Memory>
         ensures long { OnOk result (place < length self.new) }
-        ensures same { OnOk result ((k : ℕ) → get_or self.new k [] ≡ get_or self.old k []) }
+        ensures same { (k : ℕ) → get_or self.new k [] ≡ get_or self.old k [] }
     {
         while self.lists.len() <= place {
             self.lists.push(Vec::new(alloc))?;

@@ -1,6 +1,6 @@
 -- What a value reaches is a list of nodes: so it can be counted.
 use Rattle.std.proofs.Common.{◌≡◌, ◌⊎◌, inl, inr, ℕ, zero, suc, ◌<◌, Bool, true, false, cond, nat_eq, eqb-true, List, [], ◌∷◌, length, Option, Some, None, option_and_then, slice_get, refl, sym, ap, ◌∙◌, arith, subst}
-use Rattle.std.proofs.lemmas.Bool.{eqb-false}
+use Rattle.std.proofs.lemmas.Bool.{eqb-false, cases_eq}
 use Rattle.patr_lists.proofs.Members.{in_or_not}
 use Rattle.patr_lists.specs.Members.{IsIn}
 use Rattle.patr_parse.proofs.Names.{Value, Atom, Node, Structure, arc, IsReached, IsValue, IsStructure, some_inj, and_then_some, NoRepeats, own, total, Counts}
@@ -19,7 +19,7 @@ record Union (xs ys : List ℕ) : Type 0 where
 
 union : (xs ys : List ℕ) → NoRepeats ys → Union xs ys
 union [] ys n = record { list = ys; once = n; from = λ k h. inr h; left = λ k h. absurd h; right = λ k h. h }
-union (x ∷ xs) ys n = go (union xs ys n) (in_or_not (union xs ys n).list x)
+union (x ∷ xs) ys n = go (union xs ys n) (in_or_not cases_eq (union xs ys n).list x)
   where
     go : (u : Union xs ys) → IsIn u.list x ⊎ (IsIn u.list x → ⊥) → Union (x ∷ xs) ys
     go u (inl h) = record {

@@ -4,6 +4,7 @@ use Rattle.std.proofs.lemmas.Bool.{cases_eq, cases_lt}
 use Rattle.std.proofs.lemmas.Option.{slice_get_within, get_or_from_slice_get}
 use Rattle.patr_lists.proofs.Places.{get_there}
 use Rattle.patr_lists.proofs.Alls.{all_in, all_each}
+use Rattle.patr_lists.proofs.Members.{in_or_not}
 use Rattle.patr_lists.specs.Members.{NoRepeats, IsIn}
 use Rattle.patr_model.specs.Structure.{Value, Structure, arc}
 use Rattle.patr_model.specs.Category.{category, AreCompatible}
@@ -81,15 +82,6 @@ same_derivation (Extend a p) (Extend c d) = go (same_derivation a c) (same_deriv
     go (inl x) (inl y) = inl cc
     go (inr x) y = inr (λ q. x cc)
     go (inl x) (inr y) = inr (λ q. y cc)
-
-pub is_member : (ts : List Derivation) (t : Derivation) → IsIn ts t ⊎ (IsIn ts t → ⊥)
-is_member [] t = inr (λ h. h)
-is_member (u ∷ ts) t = go (same_derivation u t) (is_member ts t)
-  where
-    go : (u ≡ t) ⊎ (u ≡ t → ⊥) → IsIn ts t ⊎ (IsIn ts t → ⊥) → IsIn (u ∷ ts) t ⊎ (IsIn (u ∷ ts) t → ⊥)
-    go (inl e) r = inl (inl e)
-    go (inr n) (inl h) = inl (inr h)
-    go (inr n) (inr m) = inr (λ h. elim h [ inl e ↦ n e | inr i ↦ m i ])
 
 module _ (g : Rules) where
   partial_decided : (t : Derivation) → IsPartial g t ⊎ (IsPartial g t → ⊥)
@@ -224,7 +216,7 @@ module _ (g : Rules) (cat : ℕ) (made : AreReady g cat) (ws : List ℕ) where
     Found = (t : Derivation) × HasGround (solved g cat) g ws all t × (IsIn all t → ⊥)
 
     found_or_in : (t : Derivation) → HasGround (solved g cat) g ws all t → Found ⊎ IsIn all t
-    found_or_in t h = elim (is_member all t) [ inl m ↦ inr m | inr n ↦ inl (t, h, n) ]
+    found_or_in t h = elim (in_or_not same_derivation all t) [ inl m ↦ inr m | inr n ↦ inl (t, h, n) ]
 
     word_decided : (o : Option ℕ) (w : ℕ) → (o ≡ Some w) ⊎ (o ≡ Some w → ⊥)
     word_decided None w = inr (λ q. cc)
