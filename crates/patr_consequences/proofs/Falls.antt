@@ -9,7 +9,7 @@ use Rattle.patr_model.specs.Grammar.{Done, One}
 use Rattle.patr_model.specs.Productions.{SymbolText, RuleText, Grammar}
 use Rattle.patr_model.specs.Build.{Keys, build}
 use Rattle.patr_model.proofs.Maps.{some_inj}
-use Rattle.patr_model.proofs.Steps.{partial_or_complete}
+use Rattle.patr_model.proofs.Steps.{partial_or_complete, partial_mother, may_follow}
 use Rattle.patr_model.proofs.PlainChart.{plainly, slot_atom}
 use Rattle.patr_model.proofs.PlainSolved.{plain_is_solvable}
 use Rattle.patr_model.proofs.StatedCategories.{are_built}
@@ -126,19 +126,7 @@ follows =
     let lb = (have_least g 0 ready_g []).rules 1 0 0 second_solvable in
     let x = slot_atom g 0 ready_g.categories (Begin 0 0 0) (first_partial []) la.0 la.1 la.2 1 2 refl in
     let y = slot_atom g 0 ready_g.categories (Begin 1 0 0) second_partial lb.0 lb.1 lb.2 0 3 refl in
-    record {
-      A = la.0;
-      active = la.1;
-      least_active = la.2;
-      next = x.0;
-      next_slot = x.1;
-      B = lb.0;
-      begun = lb.1;
-      least_begun = lb.2;
-      mother = y.0;
-      is_mother = record { complete = λ c. absurd (partial_or_complete g (Begin 1 0 0) second_partial c); partial = λ p. y.1 };
-      compatible = λ k a b e f. cc;
-    }
+    may_follow g (Begin 0 0 0) (Begin 1 0 0) la x.0 x.1 lb y.0 (partial_mother g (Begin 1 0 0) second_partial lb.0 lb.1 y.0 y.1) (λ k a b e f. cc)
 
 number_of : Derivation → ℕ
 number_of (Leaf e k i j) = e

@@ -9,7 +9,7 @@ use Rattle.patr_marks.specs.Machine.{own}
 use Rattle.patr_marks.specs.Sides.{shift, shifted}
 use Rattle.patr_marks.proofs.Lists.{along_has, distinct_along}
 use Rattle.patr_marks.proofs.Sides.{along_shifted, has_shifted, distinct_shifted, get_or_map, lower_shifted}
-use Rattle.patr_model.proofs.Maps.{some_inj, maps_transitive, maps_into_longer, maps_into_shorter, carries_arc, below_more_places}
+use Rattle.patr_model.proofs.Maps.{takes_before, some_inj, maps_transitive, maps_into_longer, maps_into_shorter, carries_arc, below_more_places}
 use Rattle.patr_model.proofs.Steps.{value_longer}
 use Rattle.patr_model.specs.EquationStructures.{Pointed, forked, below_arc, one_place}
 use Rattle.patr_model.proofs.EquationStructures.{at_longer, at_value, empty_structure, equations}
@@ -150,24 +150,10 @@ module _ (L R : Structure) (sl : IsStructure L) (sr : IsStructure R) where
 
   module _ (l : Value) (p : List ℕ) (r : Value) (hl : IsValue L l) (hr : IsValue R r) where
     takes_both : (G : Structure) (g : Value) → TakesBoth L l p R r G g → TakesBoth both l p both (shift (length L) r) G g
-    takes_both G g t = record {
-      structure = t.structure;
-      held = t.held;
-      left = maps_transitive both l L l G g (to_left l hl) t.left;
-      place = t.place;
-      there = t.there;
-      right = maps_transitive both (shift (length L) r) R r G t.place (from_both r hr) t.right;
-    }
+    takes_both G g t = takes_before both l L l p both (shift (length L) r) R r (to_left l hl) (from_both r hr) G g t
 
     takes_each : (G : Structure) (g : Value) → TakesBoth both l p both (shift (length L) r) G g → TakesBoth L l p R r G g
-    takes_each G g t = record {
-      structure = t.structure;
-      held = t.held;
-      left = maps_transitive L l both l G g (from_left l hl) t.left;
-      place = t.place;
-      there = t.there;
-      right = maps_transitive R r both (shift (length L) r) G t.place (to_both r hr) t.right;
-    }
+    takes_each G g t = takes_before L l both l p R r both (shift (length L) r) (from_left l hl) (to_both r hr) G g t
 
     of_both : HasUnifier both l p both (shift (length L) r) ⊎ HasNoTaker both l p both (shift (length L) r) → HasUnifier L l p R r ⊎ HasNoTaker L l p R r
     of_both (inl u) = inl (u.0, u.1, record { takes = takes_each u.0 u.1 u.2.takes; least = λ G g t. u.2.least G g (takes_both G g t) })

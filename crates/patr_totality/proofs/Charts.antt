@@ -14,7 +14,7 @@ use Rattle.patr_model.specs.Solution.{IsSolvable, IsLeastValue}
 use Rattle.patr_model.specs.Solved.{IsMother, MayFollow, solved}
 use Rattle.patr_model.specs.Laws.{HaveLeastValues}
 use Rattle.patr_model.proofs.Maps.{some_inj, and_then_some}
-use Rattle.patr_model.proofs.Steps.{solves_count, partial_or_complete}
+use Rattle.patr_model.proofs.Steps.{solves_count, partial_mother, complete_mother, may_follow}
 use Rattle.patr_model.proofs.Prediction.{slot_of_least, prediction_drops_none}
 use Rattle.patr_model.proofs.PlainChart.{plain_in_solved, solved_in_plain}
 use Rattle.patr_model.proofs.Categories.{slot_category_is_one, category_is_one}
@@ -143,8 +143,8 @@ module _ (g : Rules) where
       (x.0, x.1)
 
   mother_of : (b : Derivation) → IsPartial g b ⊎ IsComplete g b → (l : HasLeast g b) → (x : Value) × IsMother g b l.0 l.1 x
-  mother_of b (inl part) l = let x = slot_at b part l 0 (omega arith) in (x.0, record { complete = λ c. absurd (partial_or_complete g b part c); partial = λ p. x.1 })
-  mother_of b (inr full) l = (l.1, record { complete = λ c. refl; partial = λ p. absurd (partial_or_complete g b p full) })
+  mother_of b (inl part) l = let x = slot_at b part l 0 (omega arith) in (x.0, partial_mother g b part l.0 l.1 x.0 x.1)
+  mother_of b (inr full) l = (l.1, complete_mother g b full l.0 l.1)
 
   one_mother : (b : Derivation) → IsPartial g b ⊎ IsComplete g b → (A : Structure) (v : Value) (B : Structure) (w : Value) → IsLeastValue g b A v → IsLeastValue g b B w → (x y : Value)
       → IsMother g b A v x → IsMother g b B w y → category g.restrictor A x ≡ category g.restrictor B y
@@ -157,19 +157,7 @@ module _ (g : Rules) where
       let x = slot_at a part la (suc (seen a)) (omega arith) in
       let m = mother_of b kind lb in
       elim (compatible (category g.restrictor la.0 x.0) (category g.restrictor lb.0 m.0)) [
-        | inl agrees ↦ inl (record {
-          A = la.0;
-          active = la.1;
-          least_active = la.2;
-          next = x.0;
-          next_slot = x.1;
-          B = lb.0;
-          begun = lb.1;
-          least_begun = lb.2;
-          mother = m.0;
-          is_mother = m.1;
-          compatible = agrees;
-        })
+        | inl agrees ↦ inl (may_follow g a b la x.0 x.1 lb m.0 m.1 agrees)
         | inr differs ↦ inr (λ f. differs (subst (λ c. AreCompatible c (category g.restrictor lb.0 m.0)) (slot_category_is_one g a f.A f.active la.0 la.1 f.least_active la.2 (suc (seen a)) f.next x.0 f.next_slot x.1)
             (subst (AreCompatible (category g.restrictor f.A f.next)) (one_mother b kind f.B f.begun lb.0 lb.1 f.least_begun lb.2 f.mother m.0 f.is_mother m.1) f.compatible)))
       ]
