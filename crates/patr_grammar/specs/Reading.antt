@@ -5,7 +5,8 @@ use Rattle.patr_model.specs.Parsing as parsing
 use Rattle.patr_model.specs.Productions as production
 use Rattle.patr_model.specs.Productions.{Grammar, FeatureText, Equates, row, Single}
 use Rattle.patr_model.specs.GrammarText as reading
-use Rattle.patr_model.specs.GrammarText.{GrammarFault, NotText, Misread, ReadsGrammar, RefusesGrammar}
+use Rattle.patr_model.specs.Faults.{NotText, Misread}
+use Rattle.patr_model.specs.GrammarText.{GrammarFault, ReadsGrammar, RefusesGrammar}
 use Rattle.patr_model.specs.Agreeing.{SameGrammar}
 use Rattle.patr_model.specs.Built.{stage}
 use Rattle.patr_text.specs.declared.symbols.Id.{Id}

@@ -5,7 +5,8 @@ use Rattle.patr_model.specs.Grammar.{Row}
 use Rattle.patr_model.specs.Renaming.{Each, SameRow}
 use Rattle.patr_model.specs.Parsing.{Expected, PathTooLong, LaterForm}
 use Rattle.patr_model.specs.Productions.{FeatureText}
-use Rattle.patr_model.specs.LexiconText.{EntryText, EntryFault, NoWord, SeveralWords, NoCategory, BadFeatures, BadToken, Fails, LexiconFault, NotText, Misread, ReadsLexicon, RefusesLexicon}
+use Rattle.patr_model.specs.Faults.{NotText, Misread}
+use Rattle.patr_model.specs.LexiconText.{EntryText, EntryFault, NoWord, SeveralWords, NoCategory, BadFeatures, BadToken, Fails, LexiconFault, ReadsLexicon, RefusesLexicon}
 use Rattle.patr_model.specs.Agreeing.{SameFeatureText, SameEntryText}
 use Rattle.patr_model.specs.Built.{stage}
 use Rattle.patr_text.specs.declared.fault.Fault.{Fault}

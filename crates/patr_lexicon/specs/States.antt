@@ -4,7 +4,8 @@ use Rattle.std.specs.List.{filter}
 use denote.Ref.{Bor}
 use Rattle.patr_model.specs.declared.field.Marker.{Marker}
 use Rattle.patr_model.specs.LexiconLines.{Field, Fields}
-use Rattle.patr_model.specs.LexiconText.{EntryText, EntryFault, Records, Fails, Misread, ◌>>=◌, is_known, records_of, entries, read_fields}
+use Rattle.patr_model.specs.Faults.{Misread}
+use Rattle.patr_model.specs.LexiconText.{EntryText, EntryFault, Records, Fails, ◌>>=◌, is_known, records_of, entries, read_fields}
 use Rattle.patr_model.specs.Built.{stage}
 use Rattle.patr_text.specs.declared.fault.Fault.{Fault}
 use Rattle.patr_text.specs.declared.fault.Fault.TheVariants.{Memory, Refused}

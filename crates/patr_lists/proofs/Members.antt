@@ -29,12 +29,6 @@ pub in_last : {X : Type 0} (xs : List X) (x : X) → IsIn (xs ++ x ∷ []) x
 in_last [] x = inl refl
 in_last (y ∷ xs) x = inr (in_last xs x)
 
-pub still_in : {X : Type 0} (xs : List X) (x y : X) → IsIn xs y → IsIn (xs ++ x ∷ []) y
-still_in xs x y h = in_left xs (x ∷ []) y h
-
-pub before_or_last : {X : Type 0} (xs : List X) (x y : X) → IsIn (xs ++ x ∷ []) y → IsIn xs y ⊎ (x ≡ y)
-before_or_last xs x y h = elim (in_cases xs (x ∷ []) y h) [ inl k ↦ inl k | inr k ↦ inr (in_one x y k) ]
-
 -- ---- members by their places
 
 pub in_at : {X : Type 0} (xs : List X) (d : X) (i : ℕ) → i < length xs → IsIn xs (get_or xs i d)
@@ -46,9 +40,6 @@ pub place_of : {X : Type 0} (xs : List X) (d x : X) → IsIn xs x → (i : ℕ) 
 place_of [] d x h = absurd h
 place_of (y ∷ xs) d x (inl e) = (0, omega arith, e)
 place_of (y ∷ xs) d x (inr h) = let r = place_of xs d x h in (suc r.0, omega (arith, r.1), r.2)
-
-pub in_contains : {X : Type 0} (xs : List X) (x : X) → IsIn xs x → Contains xs x
-in_contains xs x h = place_of xs x x h
 
 pub contains_in : {X : Type 0} (xs : List X) (x : X) → Contains xs x → IsIn xs x
 contains_in xs x c = subst (IsIn xs) c.2 (in_at xs x c.0 c.1)

@@ -6,10 +6,6 @@ pub if_ok_is : {E : Type 0} (r : Result (Unit {0}) E) (now done kept goal : List
 if_ok_is (Ok u) now done kept goal h e = h ∙ e
 if_ok_is (Err e) now done kept goal h f = tt
 
-pub if_ok_always : {T E : Type 0} (r : Result T E) (P : Type 0) → P → IfOk r (λ _. P)
-if_ok_always (Ok x) P h = h
-if_ok_always (Err e) P h = tt
-
 pub on_ok_weaker : {T E : Type 0} (r : Result T E) (P Q : Type 0) → (P → Q) → OnOk r P → OnOk r Q
 on_ok_weaker (Ok x) P Q f h = f h
 on_ok_weaker (Err e) P Q f h = tt

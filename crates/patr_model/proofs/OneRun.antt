@@ -5,11 +5,11 @@ use Rattle.patr_model.specs.Session.{Numbering, Grounds, State, Command, LineFor
 use Rattle.patr_model.specs.Run.{Ending, Setup, Notations, Opening, Session, Refusal, BadGrammar, BadLexicon, first_state, IsSession, ended, quit, too_long, AfterGrammar, absent, long, fault, refused, built, AfterWords, read, IsOpening, Follows}
 use Rattle.patr_model.specs.Stages.{Stage}
 use Rattle.patr_model.specs.Productions.{Grammar}
-use Rattle.patr_model.specs.Faults.{StopsUtf8}
+use Rattle.patr_model.specs.Faults.{StopsUtf8, FileFault, NotText, Misread, RefusesBytes}
 use Rattle.patr_model.specs.GrammarText as grammar_text
-use Rattle.patr_model.specs.GrammarText.{ReadsGrammar, GrammarFault, IsRead, RefusesGrammar, grammar_fault_line, HasGrammarFault}
+use Rattle.patr_model.specs.GrammarText.{ReadsGrammar, IsRead, grammar_fault_line, HasGrammarFault}
 use Rattle.patr_model.specs.LexiconText as lexicon_text
-use Rattle.patr_model.specs.LexiconText.{EntryText, ReadsLexicon, LexiconFault, AreRead, RefusesLexicon, lexicon_fault_line, HasLexiconFault}
+use Rattle.patr_model.specs.LexiconText.{EntryText, ReadsLexicon, AreRead, lexicon_fault_line, HasLexiconFault}
 use Rattle.patr_model.specs.Build.{build_fault_line}
 use Rattle.patr_model.specs.Renaming.{SameGrounds, IgnoresNumbers}
 use Rattle.patr_model.specs.Openings.{HasOneOpening, HasOneOut}
@@ -119,49 +119,38 @@ one_stop b n m s t = go (nat_lt n m) refl (nat_lt m n) refl
     go false e true f = let l = s.0 in absurd (t.2 n (ltb-true m n f) (omega arith) s.1)
     go false e false f = let l = ltb-false n m e in let k = ltb-false m n f in omega arith
 
--- bytes stand for one grammar
+module _ {R : Type 0} (reading : List ℕ → R) (stands : R → Type 0) (b : List ℕ) where
+  -- bytes that stand for something have no fault
+  no_fault : (r : R) → IsUtf8 b → reading b ≡ r → stands r → (t : FileFault R) → RefusesBytes reading stands b t → ⊥
+  no_fault r u q s (NotText n) h = whole_text b n u h
+  no_fault r u q s (Misread m) h = h.2 (subst stands (sym q ∙ h.1) s)
+
+  -- bytes have one fault
+  one_fault : (t u : FileFault R) → RefusesBytes reading stands b t → RefusesBytes reading stands b u → t ≡ u
+  one_fault (NotText n) (NotText m) h k = ap (λ z. NotText z) (one_stop b n m h k)
+  one_fault (NotText n) (Misread q) h k = absurd (whole_text b n k.0 h)
+  one_fault (Misread p) (NotText m) h k = absurd (whole_text b m h.0 k)
+  one_fault (Misread p) (Misread q) h k = ap (λ z. Misread z) (sym h.1 ∙ k.1)
+
+-- bytes stand for one grammar, have one fault line, and not both
 pub one_grammar : (s : Stage) (b : List ℕ) (g h : Grammar (List ℕ)) → ReadsGrammar s b g → ReadsGrammar s b h → g ≡ h
 one_grammar s b g h r t = let e : grammar_text.Reads g ≡ grammar_text.Reads h = sym r.1 ∙ t.1 in cc
 
--- bytes that stand for a grammar have no fault
 pub no_grammar_fault : (s : Stage) (b x : List ℕ) (g : Grammar (List ℕ)) → ReadsGrammar s b g → HasGrammarFault s b x → ⊥
-no_grammar_fault s b x g r f = go f.0 f.1
-  where
-    go : (t : GrammarFault) → RefusesGrammar s b t → ⊥
-    go (GrammarFault.NotText n) h = whole_text b n r.0 h
-    go (GrammarFault.Misread m) h = h.2 (subst IsRead (sym r.1 ∙ h.1) tt)
+no_grammar_fault s b x g r f = no_fault (grammar_text.reading s) IsRead b (grammar_text.Reads g) r.0 r.1 tt f.0 f.1
 
--- bytes that stand for no grammar have one fault line
 pub one_grammar_fault : (s : Stage) (b x y : List ℕ) → HasGrammarFault s b x → HasGrammarFault s b y → x ≡ y
-one_grammar_fault s b x y f g = f.2 ∙ (ap grammar_fault_line (go f.0 g.0 f.1 g.1) ∙ sym g.2)
-  where
-    go : (t u : GrammarFault) → RefusesGrammar s b t → RefusesGrammar s b u → t ≡ u
-    go (GrammarFault.NotText n) (GrammarFault.NotText m) h k = ap (λ z. GrammarFault.NotText z) (one_stop b n m h k)
-    go (GrammarFault.NotText n) (GrammarFault.Misread q) h k = absurd (whole_text b n k.0 h)
-    go (GrammarFault.Misread p) (GrammarFault.NotText m) h k = absurd (whole_text b m h.0 k)
-    go (GrammarFault.Misread p) (GrammarFault.Misread q) h k = ap (λ z. GrammarFault.Misread z) (sym h.1 ∙ k.1)
+one_grammar_fault s b x y f g = f.2 ∙ (ap grammar_fault_line (one_fault (grammar_text.reading s) IsRead b f.0 g.0 f.1 g.1) ∙ sym g.2)
 
--- bytes stand for one list of entries
+-- bytes stand for one list of entries, have one fault line, and not both
 pub one_lexicon : (s : Stage) (b : List ℕ) (l k : List EntryText) → ReadsLexicon s b l → ReadsLexicon s b k → l ≡ k
 one_lexicon s b l k r t = let e : lexicon_text.Reads l ≡ lexicon_text.Reads k = sym r.1 ∙ t.1 in cc
 
--- bytes that stand for entries have no fault
 pub no_lexicon_fault : (s : Stage) (b x : List ℕ) (l : List EntryText) → ReadsLexicon s b l → HasLexiconFault s b x → ⊥
-no_lexicon_fault s b x l r f = go f.0 f.1
-  where
-    go : (t : LexiconFault) → RefusesLexicon s b t → ⊥
-    go (LexiconFault.NotText n) h = whole_text b n r.0 h
-    go (LexiconFault.Misread m) h = h.2 (subst AreRead (sym r.1 ∙ h.1) tt)
+no_lexicon_fault s b x l r f = no_fault (lexicon_text.reading s) AreRead b (lexicon_text.Reads l) r.0 r.1 tt f.0 f.1
 
--- bytes that stand for no entries have one fault line
 pub one_lexicon_fault : (s : Stage) (b x y : List ℕ) → HasLexiconFault s b x → HasLexiconFault s b y → x ≡ y
-one_lexicon_fault s b x y f g = f.2 ∙ (ap lexicon_fault_line (go f.0 g.0 f.1 g.1) ∙ sym g.2)
-  where
-    go : (t u : LexiconFault) → RefusesLexicon s b t → RefusesLexicon s b u → t ≡ u
-    go (LexiconFault.NotText n) (LexiconFault.NotText m) h k = ap (λ z. LexiconFault.NotText z) (one_stop b n m h k)
-    go (LexiconFault.NotText n) (LexiconFault.Misread q) h k = absurd (whole_text b n k.0 h)
-    go (LexiconFault.Misread p) (LexiconFault.NotText m) h k = absurd (whole_text b m h.0 k)
-    go (LexiconFault.Misread p) (LexiconFault.Misread q) h k = ap (λ z. LexiconFault.Misread z) (sym h.1 ∙ k.1)
+one_lexicon_fault s b x y f g = f.2 ∙ (ap lexicon_fault_line (one_fault (lexicon_text.reading s) AreRead b f.0 g.0 f.1 g.1) ∙ sym g.2)
 
 -- ---- the session
 

@@ -8,7 +8,7 @@ use Rattle.patr_model.specs.Parsing.{Refusal, Expected, NotAConstituent, TwiceNa
 use Rattle.patr_model.specs.Stages.{Stage}
 use Rattle.patr_model.specs.Productions as production
 use Rattle.patr_model.specs.Productions.{Grammar, Outcome, grammar}
-use Rattle.patr_model.specs.Faults.{StopsUtf8, of_file, at_place}
+use Rattle.patr_model.specs.Faults.{FileFault, NotText, Misread, RefusesBytes, of_file, at_place}
 
 -- what a text is read as
 pub data Reading : Type 0 where
@@ -41,20 +41,18 @@ reading s bytes = of_scanned s (after start_place bytes) (tokens_of bytes)
 abbrev pub ReadsGrammar : Stage → List ℕ → Grammar (List ℕ) → Type 0
 ReadsGrammar s bytes g = IsUtf8 bytes × (reading s bytes ≡ Reads g)
 
--- why bytes stand for no grammar
-pub data GrammarFault : Type 0 where
-  NotText : ℕ → GrammarFault
-  Misread : Reading → GrammarFault
-
 -- it is a grammar that was read
 abbrev pub IsRead : Reading → Type 0
 IsRead (Reads g) = Unit {0}
 IsRead _ = ⊥
 
--- the bytes stand for no grammar, for this reason: the first of these that there is
+-- why bytes stand for no grammar
+abbrev pub GrammarFault : Type 0
+GrammarFault = FileFault Reading
+
+-- the bytes stand for no grammar, for this reason
 abbrev pub RefusesGrammar : Stage → List ℕ → GrammarFault → Type 0
-RefusesGrammar s bytes (NotText n) = StopsUtf8 bytes n
-RefusesGrammar s bytes (Misread r) = IsUtf8 bytes × (reading s bytes ≡ r) × (IsRead r → ⊥)
+RefusesGrammar s = RefusesBytes (reading s) IsRead
 
 -- ---- fault lines
 

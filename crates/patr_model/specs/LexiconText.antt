@@ -10,7 +10,7 @@ use Rattle.patr_model.specs.Lexemes.{by_text}
 use Rattle.patr_model.specs.Parsing.{Refusal, LaterForm, Parse, Got, Stops}
 use Rattle.patr_model.specs.Stages.{Stage}
 use Rattle.patr_model.specs.Productions.{FeatureText, elements}
-use Rattle.patr_model.specs.Faults.{StopsUtf8, of_file, at_line, at_place}
+use Rattle.patr_model.specs.Faults.{FileFault, NotText, Misread, RefusesBytes, of_file, at_line, at_place}
 use Rattle.patr_model.specs.GrammarText.{place_of, refusal_text}
 use Rattle.patr_model.specs.LexiconLines.{Piece, Field, Fields, is_edge, lines, bad_token, fields_of}
 
@@ -229,20 +229,18 @@ reading s bytes = unless_bad (bad_token false (lines bytes)) (read_fields s (fie
 abbrev pub ReadsLexicon : Stage → List ℕ → List EntryText → Type 0
 ReadsLexicon s bytes es = IsUtf8 bytes × (reading s bytes ≡ Reads es)
 
--- why bytes stand for no entries
-pub data LexiconFault : Type 0 where
-  NotText : ℕ → LexiconFault
-  Misread : Reading → LexiconFault
-
 -- they are entries that were read
 abbrev pub AreRead : Reading → Type 0
 AreRead (Reads es) = Unit {0}
 AreRead _ = ⊥
 
--- the bytes stand for no entries, for this reason: the first of these that there is
+-- why bytes stand for no entries
+abbrev pub LexiconFault : Type 0
+LexiconFault = FileFault Reading
+
+-- the bytes stand for no entries, for this reason
 abbrev pub RefusesLexicon : Stage → List ℕ → LexiconFault → Type 0
-RefusesLexicon s bytes (NotText n) = StopsUtf8 bytes n
-RefusesLexicon s bytes (Misread r) = IsUtf8 bytes × (reading s bytes ≡ r) × (AreRead r → ⊥)
+RefusesLexicon s = RefusesBytes (reading s) AreRead
 
 -- ---- fault lines
 

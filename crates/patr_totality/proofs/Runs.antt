@@ -8,11 +8,11 @@ use Rattle.patr_model.specs.Session.{Numbering, Grounds, State, cat_of, LineForm
 use Rattle.patr_model.specs.Run.{Ending, Done, Setup, Notations, Opening, Session, Refusal, usage, first_state, BadWords, NotRead, InputTooLong, IsSession, ended, quit, too_long, AfterGrammar, absent, long, fault, refused, built, AfterWords, read, IsOpening, Follows, IsOut}
 use Rattle.patr_model.specs.Stages.{Stage}
 use Rattle.patr_model.specs.Productions.{Grammar}
-use Rattle.patr_model.specs.Faults.{StopsUtf8}
+use Rattle.patr_model.specs.Faults.{StopsUtf8, NotText, Misread}
 use Rattle.patr_model.specs.GrammarText as grammar_text
-use Rattle.patr_model.specs.GrammarText.{GrammarFault, grammar_fault_line, ReadsGrammar, HasGrammarFault}
+use Rattle.patr_model.specs.GrammarText.{grammar_fault_line, ReadsGrammar, HasGrammarFault}
 use Rattle.patr_model.specs.LexiconText as lexicon_text
-use Rattle.patr_model.specs.LexiconText.{EntryText, LexiconFault, lexicon_fault_line, ReadsLexicon, HasLexiconFault}
+use Rattle.patr_model.specs.LexiconText.{EntryText, lexicon_fault_line, ReadsLexicon, HasLexiconFault}
 use Rattle.patr_model.specs.CommandLine.{command_words}
 use Rattle.patr_model.specs.Build.{BuildFault, build_fault, build, grounds, keys_of}
 use Rattle.patr_model.specs.Notations as stages
@@ -44,27 +44,27 @@ stops b none = stops_below b (length b) (omega arith) (λ k l le u.
 -- they are a grammar, or have a fault
 grammar_or_fault : (s : Stage) (b : List ℕ) → ((g : Grammar (List ℕ)) × ReadsGrammar s b g) ⊎ ((text : List ℕ) × HasGrammarFault s b text)
 grammar_or_fault s b = elim (utf8_decided b) [
-  | inr none ↦ let n = stops b none in inr (_, (GrammarFault.NotText n.0, n.1, refl))
+  | inr none ↦ let n = stops b none in inr (_, (NotText n.0, n.1, refl))
   | inl u ↦ go u (grammar_text.reading s b) refl
 ]
   where
     go : IsUtf8 b → (r : grammar_text.Reading) → grammar_text.reading s b ≡ r → ((g : Grammar (List ℕ)) × ReadsGrammar s b g) ⊎ ((text : List ℕ) × HasGrammarFault s b text)
     go u (grammar_text.Reads g) q = inl (g, (u, q))
-    go u (grammar_text.BadToken p) q = inr (_, (GrammarFault.Misread (grammar_text.BadToken p), (u, q, λ h. h), refl))
-    go u (grammar_text.Refused r p) q = inr (_, (GrammarFault.Misread (grammar_text.Refused r p), (u, q, λ h. h), refl))
-    go u grammar_text.NoRules q = inr (_, (GrammarFault.Misread grammar_text.NoRules, (u, q, λ h. h), refl))
+    go u (grammar_text.BadToken p) q = inr (_, (Misread (grammar_text.BadToken p), (u, q, λ h. h), refl))
+    go u (grammar_text.Refused r p) q = inr (_, (Misread (grammar_text.Refused r p), (u, q, λ h. h), refl))
+    go u grammar_text.NoRules q = inr (_, (Misread grammar_text.NoRules, (u, q, λ h. h), refl))
 
 -- they are entries, or have a fault
 lexicon_or_fault : (s : Stage) (b : List ℕ) → ((l : List EntryText) × ReadsLexicon s b l) ⊎ ((text : List ℕ) × HasLexiconFault s b text)
 lexicon_or_fault s b = elim (utf8_decided b) [
-  | inr none ↦ let n = stops b none in inr (_, (LexiconFault.NotText n.0, n.1, refl))
+  | inr none ↦ let n = stops b none in inr (_, (NotText n.0, n.1, refl))
   | inl u ↦ go u (lexicon_text.reading s b) refl
 ]
   where
     go : IsUtf8 b → (r : lexicon_text.Reading) → lexicon_text.reading s b ≡ r → ((l : List EntryText) × ReadsLexicon s b l) ⊎ ((text : List ℕ) × HasLexiconFault s b text)
     go u (lexicon_text.Reads l) q = inl (l, (u, q))
-    go u (lexicon_text.BadToken p) q = inr (_, (LexiconFault.Misread (lexicon_text.BadToken p), (u, q, λ h. h), refl))
-    go u (lexicon_text.Fails f) q = inr (_, (LexiconFault.Misread (lexicon_text.Fails f), (u, q, λ h. h), refl))
+    go u (lexicon_text.BadToken p) q = inr (_, (Misread (lexicon_text.BadToken p), (u, q, λ h. h), refl))
+    go u (lexicon_text.Fails f) q = inr (_, (Misread (lexicon_text.Fails f), (u, q, λ h. h), refl))
 
 -- ---- openings
 
