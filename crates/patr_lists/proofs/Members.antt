@@ -1,5 +1,6 @@
 -- Members of lists, and lists without repeats.
-use Rattle.std.proofs.Common.{◌≡◌, ◌⊎◌, inl, inr, ℕ, zero, suc, ◌<◌, ◌≤◌, List, [], ◌∷◌, ◌++◌, length, map, take, get_or, refl, sym, ap, ◌∙◌, arith, subst}
+use Rattle.std.proofs.Common.{◌≡◌, ◌⊎◌, inl, inr, ℕ, zero, suc, ◌<◌, ◌≤◌, List, [], ◌∷◌, ◌++◌, length, map, take, get_or, Some, slice_get, refl, sym, ap, ◌∙◌, arith, subst}
+use Rattle.std.proofs.lemmas.Option.{slice_get_within, get_or_from_slice_get}
 use Rattle.std.specs.List.{Contains}
 use Rattle.patr_lists.specs.Members.{IsIn, NoRepeats}
 
@@ -43,6 +44,9 @@ place_of (y ∷ xs) d x (inr h) = let r = place_of xs d x h in (suc r.0, omega (
 
 pub contains_in : {X : Type 0} (xs : List X) (x : X) → Contains xs x → IsIn xs x
 contains_in xs x c = subst (IsIn xs) c.2 (in_at xs x c.0 c.1)
+
+pub get_in : {X : Type 0} (xs : List X) (i : ℕ) (x : X) → slice_get xs i ≡ Some x → IsIn xs x
+get_in xs i x e = subst (IsIn xs) (get_or_from_slice_get xs i x x e) (in_at xs x i (slice_get_within xs i x e))
 
 pub in_front : {X : Type 0} (n : ℕ) (xs : List X) (d : X) (i : ℕ) → i < n → i < length xs → IsIn (take n xs) (get_or xs i d)
 in_front zero xs d i h l = absurd (omega (arith, h))

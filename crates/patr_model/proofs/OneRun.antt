@@ -1,6 +1,7 @@
 -- The words and the files of a run come to one opening, and a run has one text and one ending.
 use Rattle.std.proofs.Common.{◌≡◌, inl, inr, ℕ, Bool, List, ◌++◌, length, take, Option, Some, None, refl, sym, ap, ◌∙◌, subst, arith, IsUtf8, nat_lt, ltb-true, ltb-false, true, false, true≢false, codes, ◌^◌}
 use Rattle.std.proofs.Math.Seq.{take-length}
+use Rattle.std.proofs.lemmas.Bool.{cases_lt}
 use Rattle.patr_model.specs.Session.{Numbering, Grounds, State, Command, LineForms, Replied, line, lines_of, whole_lines_of}
 use Rattle.patr_model.specs.Run.{Ending, Setup, Notations, Opening, Session, Refusal, BadGrammar, BadLexicon, first_state, IsSession, ended, quit, too_long, AfterGrammar, absent, long, fault, refused, built, AfterWords, read, IsOpening, Follows}
 use Rattle.patr_model.specs.Stages.{Stage}
@@ -112,12 +113,10 @@ whole_text b n u s = s.2 (length b) s.0 (omega arith) (subst IsUtf8 (sym (take-l
 
 -- bytes that are no text stop at one place
 pub one_stop : (b : List ℕ) (n m : ℕ) → StopsUtf8 b n → StopsUtf8 b m → n ≡ m
-one_stop b n m s t = go (nat_lt n m) refl (nat_lt m n) refl
-  where
-    go : (x : Bool) → nat_lt n m ≡ x → (y : Bool) → nat_lt m n ≡ y → n ≡ m
-    go true e y f = let l = t.0 in absurd (s.2 m (ltb-true n m e) (omega arith) t.1)
-    go false e true f = let l = s.0 in absurd (t.2 n (ltb-true m n f) (omega arith) s.1)
-    go false e false f = let l = ltb-false n m e in let k = ltb-false m n f in omega arith
+one_stop b n m s t = elim (cases_lt n m) [
+  | inl l ↦ absurd (s.2 m l (omega (arith, t.0)) t.1)
+  | inr ge ↦ elim (cases_lt m n) [ inl l ↦ absurd (t.2 n l (omega (arith, s.0)) s.1) | inr le ↦ omega (arith, ge, le) ]
+]
 
 module _ {R : Type 0} (reading : List ℕ → R) (stands : R → Type 0) (b : List ℕ) where
   -- bytes that stand for something have no fault
