@@ -12,6 +12,7 @@ use Rattle.patr_model.specs.Chart.{InChart, IsChart}
 use Rattle.patr_model.specs.Solved.{solved}
 use Rattle.patr_model.specs.Plain.{category_of}
 use Rattle.patr_model.specs.Builds.{AreBuilt}
+use Rattle.patr_model.proofs.Agreeing.{one_text}
 use Rattle.patr_model.proofs.Maps.{some_inj}
 use Rattle.patr_model.proofs.Rounds.{rounds}
 use Rattle.patr_model.proofs.Steps.{partial_or_complete}
@@ -43,9 +44,6 @@ module _ (N : Numbering) (w : ℕ → List ℕ) where
     word = λ k. N.number (w k);
   }
 
-  one_text : (a b : List ℕ) → N.number a ≡ N.number b → a ≡ b
-  one_text a b e = sym (N.back a) ∙ (ap N.text e ∙ N.back b)
-
   same_entries : (k n : ℕ) → map (entry_variants N.number (keys_of N)) (generator.from (generator.entry w) k n) ≡ entries_from symbols k n
   same_entries k zero = refl
   same_entries k (suc n) = ap (λ es. (entry_of symbols k ∷ []) ∷ es) (same_entries (suc k) n)
@@ -56,7 +54,7 @@ module _ (N : Numbering) (w : ℕ → List ℕ) where
 
   -- texts that differ at a place
   differ : (i : ℕ) (a b : List ℕ) → (get_or a i 0 ≡ get_or b i 0 → ⊥) → N.number a ≡ N.number b → ⊥
-  differ i a b h e = h (ap (λ l. get_or l i 0) (one_text a b e))
+  differ i a b h e = h (ap (λ l. get_or l i 0) (one_text N a b e))
 
   S_W : symbols.S ≡ symbols.W → ⊥
   S_W = differ 0 (codes "S") (codes "W") (λ q. let bad : 83 ≡ 87 = q in omega (arith, bad))
@@ -81,7 +79,7 @@ module _ (N : Numbering) (w : ℕ → List ℕ) where
   }
 
   words_differ : (n : ℕ) → AreDifferent w n → (i j : ℕ) → i < n → j < n → symbols.word i ≡ symbols.word j → i ≡ j
-  words_differ n differ i j hi hj e = differ i j hi hj (one_text (w i) (w j) e)
+  words_differ n differ i j hi hj e = differ i j hi hj (one_text N (w i) (w j) e)
 
   same_more : rule_variants N.number symbols.cat generator.more_rule ≡ more_rule symbols ∷ []
   same_more =

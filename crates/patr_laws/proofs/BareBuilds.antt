@@ -1,5 +1,5 @@
 -- Without equations, a build states categories, words and glosses alone.
-use Rattle.std.proofs.Common.{◌≡◌, inl, ℕ, ◌<◌, Bool, true, false, true≢false, cond, nat_eq, eqb-true, List, [], ◌∷◌, append-nil, map, length, codes, Option, Some, None, refl, sym, ap, ◌∙◌, subst, arith}
+use Rattle.std.proofs.Common.{ne_eqb, ◌≡◌, inl, ℕ, ◌<◌, Bool, true, false, true≢false, cond, nat_eq, eqb-true, List, [], ◌∷◌, append-nil, map, length, codes, Option, Some, None, refl, sym, ap, ◌∙◌, subst, arith}
 use Rattle.std.specs.List.{AllByRecursion}
 use Rattle.std.proofs.lemmas.List.{length-map}
 use Rattle.patr_lists.proofs.Alls.{all_map, all_flat}
@@ -19,13 +19,6 @@ use Rattle.patr_model.proofs.StatedCategories.{categories_are_bare, everything, 
 -- a row of nothing has one variant, which is empty
 one_empty : {X Y : Type 0} (f : X → List (List Y)) (r : Row X) → r ≡ Done → AllByRecursion (λ ys. ys ≡ []) (variants f r)
 one_empty f r e = subst (λ q. AllByRecursion (λ ys. ys ≡ []) (variants f q)) (sym e) (refl, tt)
-
-differ : (a b : ℕ) → (a ≡ b → ⊥) → nat_eq b a ≡ false
-differ a b ne = go (nat_eq b a) refl
-  where
-    go : (x : Bool) → nat_eq b a ≡ x → nat_eq b a ≡ false
-    go true e = absurd (ne (sym (eqb-true b a e)))
-    go false e = e
 
 module _ {W : Type 0} (number : W → ℕ) (keys : Keys) where
   abbrev BareRule : RuleVariant → Type 0
@@ -51,14 +44,14 @@ module _ {W : Type 0} (number : W → ℕ) (keys : Keys) where
     facts_distinct e = go e.gloss
       where
         lex_absent : nat_eq keys.lex keys.cat ≡ false
-        lex_absent = differ keys.cat keys.lex apart.cat_lex
+        lex_absent = ne_eqb keys.lex keys.cat (λ q. apart.cat_lex (sym q))
 
         go : (o : Option W) → HasDistinct (arcs_for ((keys.cat, number e.category) ∷ (keys.lex, number e.word) ∷ gloss_fact number keys o))
         go None = (ap (λ b. cond b (Some (Atom (number e.word))) None) lex_absent, (refl, tt))
         go (Some w) = (
           ap (λ b. cond b (Some (Atom (number e.word))) (cond (nat_eq keys.gloss keys.cat) (Some (Atom (number w))) None)) lex_absent
-              ∙ ap (λ b. cond b (Some (Atom (number w))) None) (differ keys.cat keys.gloss apart.cat_gloss),
-          (ap (λ b. cond b (Some (Atom (number w))) None) (differ keys.lex keys.gloss apart.lex_gloss), (refl, tt)),
+              ∙ ap (λ b. cond b (Some (Atom (number w))) None) (ne_eqb keys.gloss keys.cat (λ q. apart.cat_gloss (sym q))),
+          (ap (λ b. cond b (Some (Atom (number w))) None) (ne_eqb keys.gloss keys.lex (λ q. apart.lex_gloss (sym q))), (refl, tt)),
         )
 
     bare_entry : (e : EntryOf W) → e.features ≡ Done → AllByRecursion BareEntry (entry_variants number keys e)

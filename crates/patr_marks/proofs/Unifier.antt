@@ -2,6 +2,7 @@
 use Rattle.std.proofs.Common.{◌≡◌, ℕ, zero, suc, ◌+◌, ◌<◌, inl, inr, Bool, true, false, cond, ◌||◌, List, [], ◌∷◌, ◌++◌, length, Option, Some, None, option_and_then, refl, sym, ap, ◌∙◌, subst, nat_eq, eqb-true, eq-eqb}
 use Rattle.std.proofs.lemmas.Bool.{cases_eq}
 use Rattle.patr_lists.specs.Members.{IsIn}
+use Rattle.patr_lists.proofs.Conditions.{or_right}
 use Rattle.patr_model.specs.Structure.{Value, Atom, Node, Arcs, Structure, along, arc, at, IsBelow, IsStructure, IsValue}
 use Rattle.patr_model.specs.Subsumption.{image, IsMap, MapsInto, TakesBoth, IsUnifier}
 use Rattle.patr_marks.specs.Machine.{Pair, ends, Has, has_attribute, pair_with, matches, State, own, arcs_at, IsMerge, IsBind, IsSkip, IsClash, IsMarked, Within, LogWithin, PairsWithin, IsWithin, IsClosed, Takes}
@@ -62,7 +63,7 @@ merge_within D P s t A B rest p c w g =
       ];
     }
 
-root_within : (S : Structure) (l : ℕ) (r v : Value) → v ≡ shift (length S) r → Within (IsSide S l r) v
+pub root_within : (S : Structure) (l : ℕ) (r v : Value) → v ≡ shift (length S) r → Within (IsSide S l r) v
 root_within S l r (Atom c) e = tt
 root_within S l r (Node k) e = (0, inr e)
 
@@ -185,11 +186,7 @@ is_in_from : (js : List ℕ) (k : ℕ) → IsIn js k → is_in js k ≡ true
 unfolding is_in
 is_in_from [] k h = absurd h
 is_in_from (j ∷ js) k (inl e) = ap (λ b. b || is_in js k) (eq-eqb j k e)
-is_in_from (j ∷ js) k (inr h) = right (nat_eq j k) (is_in js k) (is_in_from js k h)
-  where
-    right : (b c : Bool) → c ≡ true → (b || c) ≡ true
-    right true c h = refl
-    right false c h = h
+is_in_from (j ∷ js) k (inr h) = or_right (nat_eq j k) (is_in js k) (is_in_from js k h)
 
 is_below : List ℕ → Value → Bool
 is_below js (Atom c) = true

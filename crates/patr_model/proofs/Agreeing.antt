@@ -87,7 +87,7 @@ grammars_agree R S words others same s cat cat' k ts us e =
 -- ---- tokens by the numbers of their texts
 
 module _ (N : Numbering) where
-  one_text : (a b : List ℕ) → N.number a ≡ N.number b → a ≡ b
+  pub one_text : (a b : List ℕ) → N.number a ≡ N.number b → a ≡ b
   one_text a b e = sym (N.back a) ∙ (ap N.text e ∙ N.back b)
 
   same_number : (a b : List ℕ) (c d : ℕ) → c ≡ N.number a → d ≡ N.number b → same_text a b ≡ nat_eq c d

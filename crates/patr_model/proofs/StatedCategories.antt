@@ -124,6 +124,10 @@ stated_at cat n (d ∷ cs) more (suc i) j c e h = stated_at cat (suc n) cs more 
 
 -- ---- entries
 
+pub stated_within : (fs : List (ℕ × ℕ)) → AreWithin 1 (stated fs)
+stated_within [] = tt
+stated_within (f ∷ fs) = ((omega arith, tt), stated_within fs)
+
 module _ {W : Type 0} (number : W → ℕ) (keys : Keys) where
   feature_within : (f : FeatureText W) → AllByRecursion (AreWithin 1) (feature_variants number f)
   feature_within (Equates e) = (((omega arith, term_in e.right), tt), tt)
@@ -132,10 +136,6 @@ module _ {W : Type 0} (number : W → ℕ) (keys : Keys) where
       term_in (AtomText a) = tt
       term_in (OfPath p) = omega arith
   feature_within (Names w p) = tt
-
-  pub stated_within : (fs : List (ℕ × ℕ)) → AreWithin 1 (stated fs)
-  stated_within [] = tt
-  stated_within (f ∷ fs) = ((omega arith, tt), stated_within fs)
 
   abbrev EntryIsBuilt : EntryVariant → Type 0
   EntryIsBuilt entry = ((facts : List (ℕ × ℕ)) × (more : List Equation) × (entry.equations ≡ stated facts ++ more) × IsFact facts keys.cat entry.category) × AreWithin 1 entry.equations × (entry.chain ≡ [])

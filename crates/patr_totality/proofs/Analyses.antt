@@ -14,8 +14,9 @@ use Rattle.patr_model.proofs.Maps.{some_inj, carries}
 use Rattle.patr_model.proofs.Categories.{least_into}
 use Rattle.patr_model.proofs.Keys.{keys_tell}
 use Rattle.patr_model.proofs.Replies.{Before}
+use Rattle.patr_model.proofs.Steps.{complete_or_not}
 use Rattle.patr_totality.specs.Laws.{AreReady, HasLeast, SentencesHaveReplies}
-use Rattle.patr_totality.proofs.Charts.{complete_decided, edge_derivation, edge_solvable, edge_least, decide_chart, drops_none, search_variants}
+use Rattle.patr_totality.proofs.Charts.{edge_derivation, edge_solvable, edge_least, decide_chart, drops_none, search_variants}
 
 -- ---- the order of keys
 
@@ -118,7 +119,7 @@ module _ (g : Rules) (cat : ℕ) (made : AreReady g cat) (ws : List ℕ) where
   ]
 
   analysis_decided : (t : Derivation) → InChart (solved g cat) g ws t → Whole t ⊎ (Whole t → ⊥)
-  analysis_decided t h = elim (complete_decided g t) [
+  analysis_decided t h = elim (complete_or_not g t) [
     | inl full ↦ elim (cases_eq (start t) 0) [
       | inl s ↦ elim (cases_eq (end t) (length ws)) [
         | inl e ↦ elim (start_decided t (edge_least g cat made ws t h)) [

@@ -14,8 +14,8 @@ use Rattle.patr_model.specs.Solution.{IsSolvable, IsLeastValue}
 use Rattle.patr_model.specs.Solved.{IsMother, MayFollow, solved}
 use Rattle.patr_model.specs.Laws.{HaveLeastValues}
 use Rattle.patr_model.proofs.Maps.{some_inj, and_then_some}
-use Rattle.patr_model.proofs.Steps.{solves_count, partial_mother, complete_mother, may_follow}
-use Rattle.patr_model.proofs.Prediction.{slot_of_least, prediction_drops_none}
+use Rattle.patr_model.proofs.Steps.{solves_count, partial_or_not, complete_or_not, partial_mother, complete_mother, may_follow}
+use Rattle.patr_model.proofs.Prediction.{chart_derivation, chart_solvable, slot_of_least, prediction_drops_none}
 use Rattle.patr_model.proofs.PlainChart.{plain_in_solved, solved_in_plain}
 use Rattle.patr_model.proofs.Categories.{slot_category_is_one, category_is_one}
 use Rattle.patr_model.proofs.Rounds.{rounds}
@@ -83,29 +83,6 @@ same_derivation (Extend a p) (Extend c d) = go (same_derivation a c) (same_deriv
     go (inr x) y = inr (λ q. x cc)
     go (inl x) (inr y) = inr (λ q. y cc)
 
-module _ (g : Rules) where
-  partial_decided : (t : Derivation) → IsPartial g t ⊎ (IsPartial g t → ⊥)
-  partial_decided t = go (root_rule g t) refl
-    where
-      go : (o : Option RuleVariant) → root_rule g t ≡ o → IsPartial g t ⊎ (IsPartial g t → ⊥)
-      go None q = inr (λ h. let bad : None ≡ Some h.0 = sym q ∙ h.1 in cc)
-      go (Some v) q = elim (cases_lt (suc (seen t)) (length v.categories)) [
-        | inl m ↦ inl (v, q, m)
-        | inr m ↦ inr (λ h. omega (arith, m, h.2, ap (λ u. length u.categories) (some_inj h.0 v (sym h.1 ∙ q))))
-      ]
-
-  of_count : (n : ℕ) (o : Option RuleVariant) → ((v : RuleVariant) × (o ≡ Some v) × (n ≡ length v.categories)) ⊎ ((v : RuleVariant) × (o ≡ Some v) × (n ≡ length v.categories) → ⊥)
-  of_count n None = inr (λ h. let bad : None ≡ Some h.0 = h.1 in cc)
-  of_count n (Some v) = elim (cases_eq n (length v.categories)) [
-    | inl e ↦ inl (v, refl, e)
-    | inr e ↦ inr (λ h. e (h.2 ∙ ap (λ u. length u.categories) (some_inj h.0 v (sym h.1))))
-  ]
-
-  pub complete_decided : (t : Derivation) → IsComplete g t ⊎ (IsComplete g t → ⊥)
-  complete_decided (Leaf e k i j) = inl tt
-  complete_decided (Begin r k i) = of_count 1 (rule_variant g r k)
-  complete_decided (Extend a p) = of_count (suc (suc (seen a))) (root_rule g a)
-
 -- where both are there, they are one
 abbrev Heads : Option ℕ → Option ℕ → Type 0
 Heads x y = (a b : ℕ) → x ≡ Some a → y ≡ Some b → a ≡ b
@@ -169,16 +146,10 @@ module _ (g : Rules) (cat : ℕ) (made : AreReady g cat) (ws : List ℕ) where
   Edge = InChart (solved g cat) g ws
 
   pub edge_derivation : (t : Derivation) → Edge t → IsDerivation g ws t
-  edge_derivation t (InChart.word e k i i' entry q w n edge) = (entry, q, w, n)
-  edge_derivation t (InChart.first r k rule q c edge) = (rule, q)
-  edge_derivation t (InChart.predicted a r k i h part q edge may) = (edge.2.solves.0, edge.2.solves.1)
-  edge_derivation t (InChart.extended a p h part hp full q edge) = (edge_derivation a h, edge_derivation p hp, part, full, q)
+  edge_derivation = chart_derivation g cat ws
 
   pub edge_solvable : (t : Derivation) → Edge t → IsSolvable g t
-  edge_solvable t (InChart.word e k i i' entry q w n edge) = edge
-  edge_solvable t (InChart.first r k rule q c edge) = edge
-  edge_solvable t (InChart.predicted a r k i h part q edge may) = edge
-  edge_solvable t (InChart.extended a p h part hp full q edge) = edge
+  edge_solvable = chart_solvable g cat ws
 
   pub edge_least : (t : Derivation) → Edge t → HasLeast g t
   edge_least t h = elim (decide_least g cat made ws t (edge_derivation t h)) [ inl l ↦ l | inr none ↦ absurd (none (edge_solvable t h)) ]
@@ -260,7 +231,7 @@ module _ (g : Rules) (cat : ℕ) (made : AreReady g cat) (ws : List ℕ) where
 
     predictions : (a : Derivation) → IsIn all a → Found ⊎ AllAfter a
     unfolding AllAfter
-    predictions a h = elim (partial_decided g a) [
+    predictions a h = elim (partial_or_not g a) [
       | inl part ↦ elim (search_variants Found (λ r k. IsSolvable g (Begin r k (end a)) → MayFollow g a (Begin r k (end a)) → IsIn all (Begin r k (end a))) (after part) g.rules) [
         | inl f ↦ inl f
         | inr f ↦ inr (λ p r k rule q s m. f r k rule q s m)
@@ -287,8 +258,8 @@ module _ (g : Rules) (cat : ℕ) (made : AreReady g cat) (ws : List ℕ) where
 
     pairs : (a : Derivation) → IsIn all a → (p : Derivation) → IsIn all p → Found ⊎ AllPairs a p
     unfolding AllPairs
-    pairs a ha p hp = elim (partial_decided g a) [
-      | inl part ↦ elim (complete_decided g p) [
+    pairs a ha p hp = elim (partial_or_not g a) [
+      | inl part ↦ elim (complete_or_not g p) [
         | inl full ↦ elim (cases_eq (end a) (start p)) [
           | inl e ↦ elim (decide_least g cat made ws (Extend a p) (edge_derivation a (edges a ha), edge_derivation p (edges p hp), part, full, e)) [
             | inl l ↦ elim (found_or_in (Extend a p) (HasGround.extended a p ha part hp full e (solvable (Extend a p) l))) [ inl f ↦ inl f | inr i ↦ inr (λ x y z s. i) ]

@@ -6,7 +6,7 @@ use Rattle.patr_model.specs.Derivation.{Rules}
 use Rattle.patr_model.specs.Variants.{AreWithin}
 use Rattle.patr_model.specs.Plain.{IsBare, bare, stated}
 use Rattle.patr_model.proofs.Members.{at_is_member}
-use Rattle.patr_model.proofs.StatedCategories.{bare_within, stated_at}
+use Rattle.patr_model.proofs.StatedCategories.{bare_within, stated_at, stated_within}
 use Rattle.patr_model.proofs.PlainSolved.{bare_has, bare_chains}
 use Rattle.patr_totality.specs.Laws.{AreReady, BuildsAreReady}
 
@@ -28,11 +28,7 @@ bare_ready g cat is = record {
       (at_is_member all s (record { left = record { slot = s; path = cat ∷ [] }; right = AtomOf c }) at);
   within = record {
     rules = λ r k rule q. subst (AreWithin (length rule.categories)) (sym (is.rules r k rule q).0) (bare_within (length rule.categories) cat 0 rule.categories (omega arith));
-    entries = λ e k entry q. let f = is.entries e k entry q in subst (AreWithin 1) (sym f.1) (facts_within f.0);
+    entries = λ e k entry q. let f = is.entries e k entry q in subst (AreWithin 1) (sym f.1) (stated_within f.0);
   };
   chains = λ e k entry q. subst (AllByRecursion (AreWithin 2)) (sym (bare_chains g cat is e k entry q)) tt;
 }
-  where
-    facts_within : (fs : List (ℕ × ℕ)) → AreWithin 1 (stated fs)
-    facts_within [] = tt
-    facts_within (f ∷ fs) = ((omega arith, tt), facts_within fs)
