@@ -1,24 +1,20 @@
 -- Two values of two structures: both in one.
 use Rattle.std.proofs.Common.{◌≡◌, ℕ, suc, ◌+◌, ◌-◌, ◌<◌, ◌⊎◌, inl, inr, cond, nat_eq, nat_lt, List, [], ◌∷◌, ◌++◌, map, length, length-append, Option, Some, None, refl, sym, ap, ◌∙◌, arith, subst, eq-eqb, ne_eqb, lt-ltb, le-ltb}
 use Rattle.std.proofs.lemmas.Bool.{cases_eq, cases_lt}
-use Rattle.std.proofs.lemmas.List.{get_or_append_left, get_or-append-add}
+use Rattle.std.proofs.lemmas.List.{get_or_append_left, get_or-append-add, length-map}
 use Rattle.patr_lists.proofs.Places.{below_or_behind}
 use Rattle.patr_model.specs.Structure.{Value, Atom, Node, Arcs, Structure, along, HasDistinct, arc, at, IsBelow, IsStructure, IsValue}
 use Rattle.patr_model.specs.Subsumption.{image, MapsInto, TakesBoth}
 use Rattle.patr_marks.specs.Machine.{own}
 use Rattle.patr_marks.specs.Sides.{shift, shifted}
 use Rattle.patr_marks.proofs.Lists.{along_has, distinct_along}
-use Rattle.patr_marks.proofs.Sides.{along_shifted, has_shifted, distinct_shifted, get_or_map, lower_shifted}
-use Rattle.patr_model.proofs.Maps.{takes_before, some_inj, maps_transitive, maps_into_longer, maps_into_shorter, carries_arc, below_more_places}
+use Rattle.patr_marks.proofs.Sides.{along_shifted, has_shifted, get_or_map, beside_is_structure, joined, joined_left, joined_right, image_shift}
+use Rattle.patr_model.proofs.Maps.{keep, keep_only, image_keep, takes_before, some_inj, maps_transitive, maps_into_longer, maps_into_shorter, carries_arc, below_more_places}
 use Rattle.patr_model.proofs.Steps.{value_longer}
 use Rattle.patr_model.specs.EquationStructures.{Pointed, forked, below_arc, one_place}
 use Rattle.patr_model.proofs.EquationStructures.{at_longer, at_value, empty_structure, equations}
 use Rattle.patr_totality.specs.Laws.{HasUnifier, HasNoTaker, UnifiersAreDecided}
 use Rattle.patr_totality.proofs.Work.{unify_in}
-
-length_map : (n : ℕ) (S : Structure) → length (map (shifted n) S) ≡ length S
-length_map n [] = refl
-length_map n (e ∷ S) = ap suc (length_map n S)
 
 -- the places n on, of those below m
 forth : ℕ → ℕ → ℕ → Option Value
@@ -38,30 +34,20 @@ forth_image n m (Node k) h = ap (λ b. cond b (Some (Node (n + k))) None) (lt-lt
 
 -- and back
 back : ℕ → ℕ → ℕ → Option Value
-back n m k = cond (nat_lt k n) None (cond (nat_lt (k - n) m) (Some (Node (k - n))) None)
-
-back_at : (n m j : ℕ) → j < m → back n m (n + j) ≡ Some (Node j)
-unfolding back
-back_at n m j h =
-    let e : n + j - n ≡ j = omega arith in
-    ap (λ b. cond b None (cond (nat_lt (n + j - n) m) (Some (Node (n + j - n))) None)) (le-ltb (n + j) n (omega arith))
-    ∙ (ap (λ i. cond (nat_lt i m) (Some (Node i)) None) e ∙ ap (λ b. cond b (Some (Node j)) None) (lt-ltb j m h))
+back n m = joined n (λ k. None) (keep m)
 
 back_some : (n m k : ℕ) (y : Value) → back n m k ≡ Some y → (j : ℕ) × (k ≡ n + j) × (j < m) × (y ≡ Node j)
 unfolding back
-back_some n m k y e = elim (cases_lt k n) [
-  | inl h ↦ let bad : None ≡ Some y = ap (λ b. cond b None (cond (nat_lt (k - n) m) (Some (Node (k - n))) None)) (sym (lt-ltb k n h)) ∙ e in cc
+back_some n m k y e = elim (below_or_behind n k) [
+  | inl h ↦ let bad : None ≡ Some y = sym (joined_left n (λ i. None) (keep m) k h) ∙ e in cc
   | inr h ↦
-      let e' : cond (nat_lt (k - n) m) (Some (Node (k - n))) None ≡ Some y = ap (λ b. cond b None (cond (nat_lt (k - n) m) (Some (Node (k - n))) None)) (sym (le-ltb k n h)) ∙ e in
-      elim (cases_lt (k - n) m) [
-        | inl q ↦ (k - n, omega (arith, h), q, sym (some_inj (Node (k - n)) y (ap (λ b. cond b (Some (Node (k - n))) None) (sym (lt-ltb (k - n) m q)) ∙ e')))
-        | inr q ↦ let bad : None ≡ Some y = ap (λ b. cond b (Some (Node (k - n))) None) (sym (le-ltb (k - n) m q)) ∙ e' in cc
-      ]
+      let o = keep_only m h.0 y (sym (joined_right n (λ i. None) (keep m) h.0) ∙ (ap (joined n (λ i. None) (keep m)) (sym h.1) ∙ e)) in
+      (h.0, h.1, o.0, o.1)
 ]
 
 back_image : (n m : ℕ) (x : Value) → IsBelow m x → image (back n m) (shift n x) ≡ Some x
-back_image n m (Atom c) h = refl
-back_image n m (Node k) h = back_at n m k h
+unfolding back
+back_image n m x h = image_shift n (λ i. None) (keep m) x ∙ image_keep m x h
 
 module _ (L R : Structure) (sl : IsStructure L) (sr : IsStructure R) where
   -- both structures, the second one behind the first
@@ -77,24 +63,12 @@ module _ (L R : Structure) (sl : IsStructure L) (sr : IsStructure R) where
   own_right k = get_or-append-add L (map (shifted (length L)) R) k [] ∙ get_or_map (length L) R k
 
   both_is_structure : IsStructure both
-  both_is_structure = record {
-    distinct = λ k. elim (below_or_behind (length L) k) [
-      | inl h ↦ subst HasDistinct (sym (own_left k h)) (sl.distinct k)
-      | inr h ↦ subst (λ i. HasDistinct (own both i)) (sym h.1) (subst HasDistinct (sym (own_right h.0)) (distinct_shifted (length L) (own R h.0) (sr.distinct h.0)))
-    ];
-    lower = λ k a x e. elim (below_or_behind (length L) k) [
-      | inl h ↦ sl.lower k a x (ap (λ es. along es a) (sym (own_left k h)) ∙ e)
-      | inr h ↦
-          let e' : along (shifted (length L) (own R h.0)) a ≡ Some x = ap (λ es. along es a) (sym (own_right h.0)) ∙ (ap (λ i. along (own both i) a) (sym h.1) ∙ e) in
-          let w = has_shifted (length L) (own R h.0) a x (along_has (shifted (length L) (own R h.0)) a x e') in
-          let b = sr.lower h.0 a w.0 (distinct_along (own R h.0) a w.0 (sr.distinct h.0) w.1) in
-          subst (λ i. IsBelow i x) (sym h.1) (subst (IsBelow (length L + h.0)) (sym w.2) (lower_shifted (length L) h.0 w.0 b))
-    ];
-  }
+  unfolding both
+  both_is_structure = beside_is_structure L R sl sr
 
   length_both : length both ≡ length L + length R
   unfolding both
-  length_both = length-append L (map (shifted (length L)) R) ∙ ap (λ n. length L + n) (length_map (length L) R)
+  length_both = length-append L (map (shifted (length L)) R) ∙ ap (λ n. length L + n) (length-map R (shifted (length L)))
 
   right_value : (x : Value) → IsValue R x → IsValue both (shift (length L) x)
   right_value (Atom c) h = tt
