@@ -222,14 +222,6 @@ module _ (s : Symbols) (apart : AreApart s) where
         },
       )
 
-  -- the node of a sentence of one word
-  abbrev last_arcs_of : ℕ → Arcs
-  last_arcs_of k = leads s.cat (Atom s.S) ∷ leads s.agr (Node 0) ∷ leads s.head (Atom (s.word k)) ∷ []
-
-  -- of more words
-  abbrev more_arcs_of : ℕ → Value → Arcs
-  more_arcs_of k y = leads s.cat (Atom s.S) ∷ leads s.agr (Node 0) ∷ leads s.head (Atom (s.word k)) ∷ leads s.tail y ∷ []
-
   -- slots of the two rules
   last_solved : (G : Structure) (m x : Value) (k : ℕ) → IsSentence G m → arc G m s.head ≡ Some (Atom (s.word k)) → IsWord G x k → SolvesRule G (last_rule s) (m ∷ x ∷ [])
   last_solved G m x k t h w = record {
@@ -279,6 +271,45 @@ module _ (s : Symbols) (apart : AreApart s) where
     );
   }
 
+  -- the arcs of a sentence's node: those of its first word, and the rest
+  abbrev sentence_arcs : ℕ → Arcs → Arcs
+  sentence_arcs k rest = leads s.cat (Atom s.S) ∷ leads s.agr (Node 0) ∷ leads s.head (Atom (s.word k)) ∷ rest
+
+  -- a word's node on top, and a sentence's node on that
+  abbrev topped : Structure → ℕ → Arcs → Structure
+  topped G k rest = top (top G (word_arcs k)) (sentence_arcs k rest)
+
+  record IsTopped (G : Structure) (k : ℕ) (rest : Arcs) : Type 0 where
+    base : IsBase (topped G k rest)
+    sentence : IsSentence (topped G k rest) (new (top G (word_arcs k)))
+    head : arc (topped G k rest) (new (top G (word_arcs k))) s.head ≡ Some (Atom (s.word k))
+    word : IsWord (topped G k rest) (new G) k
+
+  -- no arc of the rest has this attribute
+  abbrev Lacks : ℕ → Arcs → Type 0
+  Lacks a rest = AllByRecursion (λ (e : Arc). a ≡ e.attribute → ⊥) rest
+
+  is_topped : (G0 : Structure) (k : ℕ) (rest : Arcs) → IsBase G0 → Lacks s.cat rest → Lacks s.agr rest → Lacks s.head rest → HasDistinct rest
+      → AllByRecursion (λ (e : Arc). IsValue (top G0 (word_arcs k)) e.to) rest → IsTopped G0 k rest
+  is_topped G0 k rest b cats agrs heads d held =
+      let w = word_top G0 k b in
+      let G = top G0 (word_arcs k) in
+      let es = sentence_arcs k rest in
+      let distinct : HasDistinct es = (
+        free (leads s.agr (Node 0) ∷ leads s.head (Atom (s.word k)) ∷ rest) s.cat (apart.cat_agr, (apart.cat_head, cats)),
+        (free (leads s.head (Atom (s.word k)) ∷ rest) s.agr (apart.agr_head, agrs), (free rest s.head heads, d)),
+      ) in
+      record {
+        base = base_more G es w.0 (topped_structure G es w.0.structure distinct (along_has (IsValue G) es (tt, (w.0.room, (tt, held)))));
+        sentence = record {
+          held = new_held G es;
+          cat = new_arc G es s.cat (Atom s.S) (led es s.cat (Atom s.S) (inl (refl, refl)));
+          agr = new_arc G es s.agr (Node 0) (led es s.agr (Node 0) (inr (apart.cat_agr, inl (refl, refl))));
+        };
+        head = new_arc G es s.head (Atom (s.word k)) (led es s.head (Atom (s.word k)) (inr (apart.cat_head, inr (apart.agr_head, inl (refl, refl)))));
+        word = word_more G es (new G0) k w.1;
+      }
+
   -- a sentence of one word
   pub record LastStep (k : ℕ) : Type 0 where
     pub G : Structure
@@ -292,29 +323,15 @@ module _ (s : Symbols) (apart : AreApart s) where
   pub last_step : (k : ℕ) → LastStep k
   last_step k =
       let G0 : Structure = (leads s.num (Atom s.sg) ∷ []) ∷ [] in
-      let w = word_top G0 k first_base in
-      let G = top G0 (word_arcs k) in
-      let es = last_arcs_of k in
-      let distinct : HasDistinct es = (
-        free (leads s.agr (Node 0) ∷ leads s.head (Atom (s.word k)) ∷ []) s.cat (apart.cat_agr, (apart.cat_head, tt)),
-        (free (leads s.head (Atom (s.word k)) ∷ []) s.agr (apart.agr_head, tt), (refl, tt)),
-      ) in
-      let st = topped_structure G es w.0.structure distinct (along_has (IsValue G) es (tt, (w.0.room, (tt, tt)))) in
-      let t : IsSentence (top G es) (new G) = record {
-        held = new_held G es;
-        cat = new_arc G es s.cat (Atom s.S) (led es s.cat (Atom s.S) (inl (refl, refl)));
-        agr = new_arc G es s.agr (Node 0) (led es s.agr (Node 0) (inr (apart.cat_agr, inl (refl, refl))));
-      } in
-      let h = new_arc G es s.head (Atom (s.word k)) (led es s.head (Atom (s.word k)) (inr (apart.cat_head, inr (apart.agr_head, inl (refl, refl))))) in
-      let x = word_more G es (new G0) k w.1 in
+      let t = is_topped G0 k [] first_base tt tt tt tt tt in
       record {
-        G = top G es;
-        m = new G;
+        G = topped G0 k [];
+        m = new (top G0 (word_arcs k));
         x = new G0;
-        base = base_more G es w.0 st;
-        sentence = t;
-        word = x;
-        solves = last_solved (top G es) (new G) (new G0) k t h x;
+        base = t.base;
+        sentence = t.sentence;
+        word = t.word;
+        solves = last_solved (topped G0 k []) (new (top G0 (word_arcs k))) (new G0) k t.sentence t.head t.word;
       }
 
   -- one word more in front of the sentence y
@@ -330,34 +347,20 @@ module _ (s : Symbols) (apart : AreApart s) where
 
   pub more_step : (G : Structure) (y : Value) (k : ℕ) → IsBase G → IsSentence G y → MoreStep G y k
   more_step G0 y k b u =
-      let w = word_top G0 k b in
       let G = top G0 (word_arcs k) in
       let u1 = sentence_more G0 (word_arcs k) y u in
-      let es = more_arcs_of k y in
-      let distinct : HasDistinct es = (
-        free (leads s.agr (Node 0) ∷ leads s.head (Atom (s.word k)) ∷ leads s.tail y ∷ []) s.cat (apart.cat_agr, (apart.cat_head, (apart.cat_tail, tt))),
-        (
-          free (leads s.head (Atom (s.word k)) ∷ leads s.tail y ∷ []) s.agr (apart.agr_head, (apart.agr_tail, tt)),
-          (free (leads s.tail y ∷ []) s.head (apart.head_tail, tt), (refl, tt)),
-        ),
-      ) in
-      let st = topped_structure G es w.0.structure distinct (along_has (IsValue G) es (tt, (w.0.room, (tt, (u1.held, tt))))) in
-      let t : IsSentence (top G es) (new G) = record {
-        held = new_held G es;
-        cat = new_arc G es s.cat (Atom s.S) (led es s.cat (Atom s.S) (inl (refl, refl)));
-        agr = new_arc G es s.agr (Node 0) (led es s.agr (Node 0) (inr (apart.cat_agr, inl (refl, refl))));
-      } in
-      let h = new_arc G es s.head (Atom (s.word k)) (led es s.head (Atom (s.word k)) (inr (apart.cat_head, inr (apart.agr_head, inl (refl, refl))))) in
+      let rest : Arcs = leads s.tail y ∷ [] in
+      let es = sentence_arcs k rest in
+      let t = is_topped G0 k rest b (apart.cat_tail, tt) (apart.agr_tail, tt) (apart.head_tail, tt) (refl, tt) (u1.held, tt) in
       let r = new_arc G es s.tail y (led es s.tail y (inr (apart.cat_tail, inr (apart.agr_tail, inr (apart.head_tail, inl (refl, refl)))))) in
-      let x = word_more G es (new G0) k w.1 in
       record {
-        more = top G es;
+        more = topped G0 k rest;
         m = new G;
         x = new G0;
-        base = base_more G es w.0 st;
-        sentence = t;
-        word = x;
-        solves = more_solved (top G es) (new G) (new G0) y k t h r x (sentence_more G es y u1);
+        base = t.base;
+        sentence = t.sentence;
+        word = t.word;
+        solves = more_solved (topped G0 k rest) (new G) (new G0) y k t.sentence t.head r t.word (sentence_more G es y u1);
         keeps = λ g d vs sol. solves_longer g d G (es ∷ []) vs (solves_longer g d G0 (word_arcs k ∷ []) vs sol);
       }
 
