@@ -8,7 +8,7 @@ use Rattle.patr_model.specs.Derivation.{Rules, EntryVariant, Leaf, entry_variant
 use Rattle.patr_model.specs.Solution.{Chain, SolvesEntry, Solution, IsSolvable, IsLeastValue, with_slots, slots_from}
 use Rattle.patr_model.specs.Variants.{variant, RuleAt, IsLeastOf, LeavesAreRules}
 use Rattle.patr_model.proofs.Maps.{some_inj, maps_transitive, maps_reflexive, maps_into_shorter, carries_arc}
-use Rattle.patr_model.proofs.Steps.{arc_value, chain_value, slots_structure, slots_has, new_is_value}
+use Rattle.patr_model.proofs.Steps.{slot_maps, arc_value, chain_value, slots_structure, slots_has, new_is_value}
 use Rattle.patr_model.proofs.Variants.{all_longer}
 use Rattle.patr_model.proofs.Chains.{holds_longer}
 
@@ -80,13 +80,7 @@ module _ (g : Rules) (e k i j : ℕ) (entry : EntryVariant) (q : entry_variant g
           );
           least = λ G v s.
               let n = with_node G v s in
-              let H = with_slots G (v ∷ []) in
-              let into = least.least H (Node (length G)) n.0 (new_is_value G (v ∷ [])) n.1 in
-              let out = carries_arc M H into.by into.is_map m (Node (length G)) into.root 0 x there in
-              let z : out.0 ≡ v = some_inj out.0 v (sym out.2 ∙ slots_has G (v ∷ []) 0 v refl) in
-              maps_transitive M x H v G v
-              (record { by = into.by; is_map = into.is_map; root = out.1 ∙ ap (λ y. Some y) z })
-              (maps_into_shorter G (slots_from 0 (v ∷ []) ∷ []) v s.structure s.value.held);
+              slot_maps M m x 0 there G (v ∷ []) v s.structure s.value.held refl (least.least (with_slots G (v ∷ [])) (Node (length G)) n.0 (new_is_value G (v ∷ [])) n.1);
         },
       )
 
