@@ -1,5 +1,5 @@
 -- A structure with more nodes behind it.
-use Rattle.std.proofs.Common.{◌≡◌, ℕ, zero, suc, ◌+◌, inl, inr, List, [], ◌∷◌, ◌++◌, length, Some, sym, ap, ◌∙◌, arith, subst}
+use Rattle.std.proofs.Common.{◌≡◌, ℕ, zero, suc, ◌+◌, inl, inr, [], ◌∷◌, ◌++◌, length, Some, sym, ap, ◌∙◌, arith, subst}
 use Rattle.std.proofs.lemmas.List.{get_or-append-add, get_or_append_left}
 use Rattle.patr_lists.proofs.Places.{below_or_behind}
 use Rattle.patr_model.specs.Structure.{Value, Node, Arcs, Structure, along, HasDistinct, arcs_of, arc, IsBelow, IsValue, IsStructure}

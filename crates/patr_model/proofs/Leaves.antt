@@ -7,7 +7,7 @@ use Rattle.patr_model.specs.Equation.{Holds}
 use Rattle.patr_model.specs.Derivation.{Rules, EntryVariant, Leaf, entry_variant}
 use Rattle.patr_model.specs.Solution.{Chain, SolvesEntry, Solution, IsSolvable, IsLeastValue, with_slots, slots_from}
 use Rattle.patr_model.specs.Variants.{variant, RuleAt, IsLeastOf, LeavesAreRules}
-use Rattle.patr_model.proofs.Maps.{some_inj, maps_transitive, maps_reflexive, maps_into_shorter, carries_arc}
+use Rattle.patr_model.proofs.Maps.{some_inj, maps_reflexive}
 use Rattle.patr_model.proofs.Steps.{slot_maps, arc_value, chain_value, slots_structure, slots_has, new_is_value}
 use Rattle.patr_model.proofs.Variants.{all_longer}
 use Rattle.patr_model.proofs.Chains.{holds_longer}

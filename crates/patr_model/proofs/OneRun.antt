@@ -1,5 +1,5 @@
 -- The words and the files of a run come to one opening, and a run has one text and one ending.
-use Rattle.std.proofs.Common.{◌≡◌, inl, inr, ℕ, Bool, List, ◌++◌, length, take, Option, Some, None, refl, sym, ap, ◌∙◌, subst, arith, IsUtf8, nat_lt, ltb-true, ltb-false, true, false, true≢false, codes, ◌^◌}
+use Rattle.std.proofs.Common.{◌≡◌, inl, inr, ℕ, Bool, List, ◌++◌, length, take, Option, Some, None, sym, ap, ◌∙◌, subst, arith, IsUtf8, true, false, true≢false, codes, ◌^◌}
 use Rattle.std.proofs.Math.Seq.{take-length}
 use Rattle.std.proofs.lemmas.Bool.{cases_lt}
 use Rattle.patr_model.specs.Session.{Numbering, Grounds, State, Command, LineForms, Replied, line, lines_of, whole_lines_of}
