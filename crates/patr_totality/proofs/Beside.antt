@@ -1,9 +1,9 @@
 -- Two values of two structures: both in one.
-use Rattle.std.proofs.Common.{◌≡◌, ℕ, suc, ◌+◌, ◌-◌, ◌<◌, ◌⊎◌, inl, inr, cond, nat_eq, nat_lt, List, [], ◌∷◌, ◌++◌, map, length, length-append, Option, Some, None, refl, sym, ap, ◌∙◌, arith, subst, eq-eqb, ne_eqb, lt-ltb, le-ltb}
+use Rattle.std.proofs.Common.{◌≡◌, ℕ, ◌+◌, ◌<◌, ◌⊎◌, inl, inr, cond, nat_eq, nat_lt, List, [], ◌∷◌, ◌++◌, map, length, length-append, Option, Some, None, refl, sym, ap, ◌∙◌, arith, subst, eq-eqb, ne_eqb, lt-ltb, le-ltb}
 use Rattle.std.proofs.lemmas.Bool.{cases_eq, cases_lt}
 use Rattle.std.proofs.lemmas.List.{get_or_append_left, get_or-append-add, length-map}
 use Rattle.patr_lists.proofs.Places.{below_or_behind}
-use Rattle.patr_model.specs.Structure.{Value, Atom, Node, Arcs, Structure, along, HasDistinct, arc, at, IsBelow, IsStructure, IsValue}
+use Rattle.patr_model.specs.Structure.{Value, Atom, Node, Arcs, Structure, along, arc, at, IsBelow, IsStructure, IsValue}
 use Rattle.patr_model.specs.Subsumption.{image, MapsInto, TakesBoth}
 use Rattle.patr_marks.specs.Machine.{own}
 use Rattle.patr_marks.specs.Sides.{shift, shifted}

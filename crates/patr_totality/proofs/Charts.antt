@@ -8,7 +8,7 @@ use Rattle.patr_lists.proofs.Members.{in_or_not}
 use Rattle.patr_lists.specs.Members.{NoRepeats, IsIn}
 use Rattle.patr_model.specs.Structure.{Value, Structure, arc}
 use Rattle.patr_model.specs.Category.{category, AreCompatible}
-use Rattle.patr_model.specs.Derivation.{Rules, RuleVariant, EntryVariant, Derivation, Leaf, Begin, Extend, entry_variant, rule_variant, root_rule, seen, start, end, size, IsPartial, IsComplete}
+use Rattle.patr_model.specs.Derivation.{Rules, RuleVariant, EntryVariant, Derivation, Leaf, Begin, Extend, entry_variant, rule_variant, seen, start, end, size, IsPartial, IsComplete}
 use Rattle.patr_model.specs.Chart.{InChart, IsChart, HasMoreThan, IsDerivation, HasGround}
 use Rattle.patr_model.specs.Solution.{IsSolvable, IsLeastValue}
 use Rattle.patr_model.specs.Solved.{IsMother, MayFollow, solved}

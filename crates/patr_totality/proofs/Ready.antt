@@ -1,10 +1,10 @@
 -- What a build makes is ready, and so are variants without written equations.
-use Rattle.std.proofs.Common.{◌≡◌, ℕ, List, [], ◌∷◌, length, append-nil, Some, slice_get, Contains, sym, subst, arith}
+use Rattle.std.proofs.Common.{◌≡◌, ℕ, [], ◌∷◌, length, append-nil, Some, slice_get, Contains, sym, subst, arith}
 use Rattle.std.specs.List.{AllByRecursion}
 use Rattle.patr_model.specs.Equation.{AtomOf}
 use Rattle.patr_model.specs.Derivation.{Rules}
 use Rattle.patr_model.specs.Variants.{AreWithin}
-use Rattle.patr_model.specs.Plain.{IsBare, bare, stated}
+use Rattle.patr_model.specs.Plain.{IsBare, bare}
 use Rattle.patr_model.proofs.Members.{at_is_member}
 use Rattle.patr_model.proofs.StatedCategories.{bare_within, stated_at, stated_within}
 use Rattle.patr_model.proofs.PlainSolved.{bare_has, bare_chains}
