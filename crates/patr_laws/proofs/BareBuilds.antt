@@ -1,5 +1,5 @@
 -- Without equations, a build states categories, words and glosses alone.
-use Rattle.std.proofs.Common.{ne_eqb, ◌≡◌, inl, ℕ, ◌<◌, Bool, true, false, true≢false, cond, nat_eq, eqb-true, List, [], ◌∷◌, append-nil, map, length, codes, Option, Some, None, refl, sym, ap, ◌∙◌, subst, arith}
+use Rattle.std.proofs.Common.{◌≡◌, inl, ℕ, ◌<◌, false, true≢false, cond, nat_eq, ne_eqb, List, [], ◌∷◌, append-nil, map, length, codes, Option, Some, None, refl, sym, ap, ◌∙◌, subst, arith}
 use Rattle.std.specs.List.{AllByRecursion}
 use Rattle.std.proofs.lemmas.List.{length-map}
 use Rattle.patr_lists.proofs.Alls.{all_map, all_flat}
