@@ -13,7 +13,8 @@ unfoldable pub use Rattle.patr_model.specs.Productions.{braced, clauses, element
 pub use Rattle.patr_model.specs.Renaming.{Both, Each, SameRow, SameRows'}
 pub use Rattle.patr_model.specs.Tokens.{Place, Token, after, scan, start_place, tokens_of}
 pub use Rattle.patr_model.specs.declared.lookahead.Kind.TheVariants.{CloseBrace, Equal, Greater, Less, OpenBrace, OpenParen, Word}
-pub use Rattle.patr_text.specs.Texts.{Extends, holds, with_text}
+pub use Rattle.patr_text.proofs.Extending.{extends_trans, extends_with, text_still}
+pub use Rattle.patr_text.specs.Texts.{Extends}
 unfoldable pub use Rattle.patr_text.specs.Texts.{first_texts}
 pub use Rattle.patr_text.specs.Tokens.{InOrder, IsCut, seen}
 pub use Rattle.patr_text.specs.declared.fault.Fault.{Fault}
