@@ -1,5 +1,5 @@
 -- What many proofs here name of the crates below and of the specs.
-pub use Rattle.patr_grammar.proofs.Tables.{each_still, extends_trans, extends_with, text_still}
+pub use Rattle.patr_grammar.proofs.Tables.{each_still}
 pub use Rattle.patr_lexicon.specs.Cut.{AreCutFrom, anywhere}
 pub use Rattle.patr_lexicon.specs.Entries.{is_of}
 pub use Rattle.patr_lexicon.specs.Laid.{AreLaid, AreLaidBefore, EndsBy, IsLaidBefore, StandsAt, end_byte}
@@ -23,6 +23,7 @@ pub use Rattle.patr_model.specs.Session.{Cut, cut_at, is_blank, pieces, without_
 pub use Rattle.patr_model.specs.Tokens.{step, Place, Scanned, Token, after, front, is_control, read_front, start_place, with_token}
 unfoldable pub use Rattle.patr_model.specs.Tokens.{scan}
 pub use Rattle.patr_model.specs.declared.field.Marker.{Marker}
+pub use Rattle.patr_text.proofs.Extending.{extends_trans, extends_with, text_still}
 pub use Rattle.patr_text.specs.Texts.{Extends, with_text}
 pub use Rattle.std.proofs.Math.Seq.{drop-append_seam, take-add}
 pub use Rattle.std.proofs.lemmas.Bool.{cases_lt, ne_eqb}

@@ -8,7 +8,7 @@ use Rattle.patr_model.specs.declared.field.LexiconLine.TheVariants.{Begins}
 use Rattle.patr_model.specs.Session.{pieces}
 use Rattle.patr_model.specs.Tokens.{Place}
 use Rattle.patr_model.specs.LexiconLines.{Piece}
-use Rattle.patr_lexicon.specs.declared.line.Place as code_place
+use Rattle.patr_text.specs.declared.token.BadToken.{BadToken}
 use Rattle.patr_lexicon.specs.declared.line.Piece as code_piece
 use Rattle.patr_lexicon.specs.declared.words.Words as code_words
 use Rattle.patr_lexicon.specs.declared.words.Words.TheVariants as code_count
@@ -46,7 +46,7 @@ abbrev pub past : ℕ → ℕ → ℕ → Place
 past n k more = place_at n (k + more)
 
 -- a place of the code as one of the definition
-abbrev pub place_seen : code_place.Place → Place
+abbrev pub place_seen : BadToken → Place
 place_seen p = place_at p.line p.column
 
 -- a piece of the code as one of the definition

@@ -10,15 +10,7 @@ ghost use Rattle.patr_lexicon.specs.Reading.{place_at};
 ghost use Rattle.patr_lexicon.specs.Parts.{NoLf, rest_lines, rest_text, rest_len, IsCut, past, place_seen};
 
 use patr_model::{LexiconLine, Marker};
-
-/// A place in a lexicon.
-#[derive(Clone, Copy)]
-pub struct Place {
-    /// The line, from 1.
-    pub line: u32,
-    /// 1 and the number of bytes before the place on its line.
-    pub column: u32,
-}
+use patr_text::BadToken;
 
 /// A line from a place on, up to the line's end.
 #[derive(Clone, Copy)]
@@ -170,8 +162,20 @@ fn control_in(comments: bool, line: &str, kind: LexiconLine) -> Option<usize>
     }
 }
 
+/// The first bad character of a line of this number and this kind.
+pub fn bad_in(comments: bool, number: u32, line: &str, kind: LexiconLine) -> Option<BadToken>
+    requires { length line.now < 2 ^ 32 }
+    ensures { option_map place_seen result ≡ control_in comments (line_at number line.now) kind }
+{
+    let before = control_in(comments, line, kind)?;
+    Some(BadToken {
+        line: number,
+        column: 1 + before as u32,
+    })
+}
+
 /// Whether comments are read behind a line of this kind.
-fn comments_after(comments: bool, kind: LexiconLine) -> bool
+pub fn comments_after(comments: bool, kind: LexiconLine) -> bool
     ensures { result ≡ comments_after comments kind }
 {
     match kind {
@@ -182,7 +186,7 @@ fn comments_after(comments: bool, kind: LexiconLine) -> bool
 
 /// The place of the first bad character of a text: a control character that is no white space and
 /// stands outside comments.
-pub fn bad_token(text: &str) -> Option<Place>
+pub fn bad_token(text: &str) -> Option<BadToken>
     requires { length text.now < 2 ^ 32 - 1 }
     ensures { option_map place_seen result ≡ bad_token false (lines text.now) }
 {
@@ -192,11 +196,8 @@ pub fn bad_token(text: &str) -> Option<Place>
     'lines: loop {
         let (line, behind) = cut_line(rest);
         let kind = kind_of(line);
-        if let Some(before) = control_in(comments, line, kind) {
-            return Some(Place {
-                line: number,
-                column: 1 + before as u32,
-            });
+        if let Some(bad) = bad_in(comments, number, line, kind) {
+            return Some(bad);
         }
         let Some(behind) = behind else {
             return None;
