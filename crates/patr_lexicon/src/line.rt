@@ -1,5 +1,5 @@
 //! The lines of a lexicon: their kinds, their pieces, and places in them.
-ghost use Rattle.std.specs.Prelude.{◌≡◌, ◌+◌, ◌-◌, ◌∷◌, ◌++◌, ◌<◌, ◌≤◌, ◌^◌, length, nat_eq, drop, IfSome, ℕ, false, ◌&&◌};
+ghost use Rattle.std.specs.Prelude.{◌≡◌, ◌+◌, ◌-◌, ◌∷◌, ◌++◌, ◌<◌, ◌≤◌, ◌^◌, length, nat_eq, drop, IfSome, ℕ, false, not, ◌&&◌};
 ghost use Rattle.std.specs.Option.{option_map};
 ghost use Rattle.std.specs.List.{prefix_len, suffix_len};
 ghost use Rattle.patr_model.specs.Session.{is_blank, pieces};
@@ -7,7 +7,7 @@ ghost use Rattle.patr_model.specs.Tokens.{is_control};
 ghost use Rattle.patr_model.specs.LexiconLines.{is_edge, marker_len, blank_len, begins_with, is_white_line, is_comment, marker_of, kind, control, reads_comments, control_in, comments_after, bad_token, line_at, lines};
 ghost use Rattle.patr_model.specs.LexiconText.{trimmed};
 ghost use Rattle.patr_lexicon.specs.Reading.{place_at};
-ghost use Rattle.patr_lexicon.specs.Parts.{NoLf, rest_lines, rest_text, rest_len, IsCut, past, place_seen};
+ghost use Rattle.patr_lexicon.specs.Parts.{NoLf, rest_lines, rest_pieces, rest_text, rest_len, IsCut, past, place_seen};
 
 use patr_model::{LexiconLine, Marker};
 use patr_text::BadToken;
@@ -111,6 +111,27 @@ pub fn cut_line(text: &str) -> (&str, Option<&str>)
         Some((line, rest)) => (line, Some(rest)),
         None => (text, None),
     }
+}
+
+/// How many bytes stand before the first space or tab.
+fn word_len(text: &[u8]) -> usize
+    ensures len { result ≡ prefix_len (λ b. not (is_blank b)) text.now }
+    ensures within { result ≤ length text.now }
+{
+    text.iter().take_while(|byte| !is_blank(**byte)).count()
+}
+
+/// The first piece of a text that is cut at spaces and tabs, and what stands behind the byte that ends
+/// it, where there is one.
+pub fn cut_word(text: &str) -> (&str, Option<&str>)
+    ensures pieces { pieces is_blank text.now ≡ result.0.now ∷ rest_pieces is_blank result.1 }
+    ensures len { length result.0.now + rest_len result.1 ≡ length text.now }
+{
+    let len = word_len(text.as_bytes());
+    if len == text.len() {
+        return (text, None);
+    }
+    (&text[..len], Some(&text[len + 1..]))
 }
 
 fn is_control(byte: u8) -> bool
