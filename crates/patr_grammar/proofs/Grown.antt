@@ -1,9 +1,9 @@
 -- A grammar that was read stays what was read while the table grows.
 use Rattle.std.proofs.Common.{ℕ, List, map, Option, None, Some}
-use Rattle.patr_grammar.proofs.Names.{AtomText, Both, Done, Each, Equates, EquationText, Extends, FeatureText, Grammar, Id, IsGrammar, IsText, LexicalRule, Names, None', OfPath, One, OneOf, Optional, Or, PathText, Row, Rows, RuleText, SameEquationText, SameFeatureText, SameLexicalRule, SamePathText, SameRow, SameRows', SameRuleText, SameSymbolText, SameTemplate, SameTermText, SymbolText, Template, TermText, lexical_rule_seen, rule_seen, template_seen}
+use Rattle.patr_grammar.proofs.Names.{AtomText, Both, Done, Each, Equates, EquationText, Extends, FeatureText, Grammar, Id, IsGrammar, IsText, LexicalRule, Names, None', OfPath, One, OneOf, Optional, Or, PathText, Row, Rows, RuleText, SameEquationText, SameFeatureText, SameLexicalRule, SamePathText, SameRow, SameRows', SameRuleText, SameSymbolText, SameTemplate, SameTermText, SymbolText, Template, TermText, lexical_rule_seen, rule_seen, template_seen, text_still}
 use Rattle.patr_grammar.specs.declared.grammar.Grammar as code_grammar
 use Rattle.patr_grammar.specs.Defaults.{paths_seen}
-use Rattle.patr_grammar.proofs.Tables.{each_still, text_still}
+use Rattle.patr_grammar.proofs.Tables.{each_still}
 
 -- what belongs together by fewer pairs of words does by more
 module _ {W V : Type 0} (P Q : W → V → Type 0) (f : (x : W) (y : V) → P x y → Q x y) where

@@ -18,7 +18,7 @@ use Rattle.patr_grammar.specs.declared.reader.Refusal.TheVariants.{Expected, Not
 use Rattle.patr_grammar.specs.Defaults.{cat_number, paths_seen, by_category}
 use Rattle.patr_model.proofs.Agreeing.{grammars_agree}
 use Rattle.patr_grammar.proofs.Forms.{stands}
-use Rattle.patr_grammar.proofs.Tables.{text_still}
+use Rattle.patr_text.proofs.Extending.{text_still}
 use Rattle.patr_grammar.proofs.Texts.{same_by}
 
 -- ---- the grammar of some rules

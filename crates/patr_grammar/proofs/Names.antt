@@ -8,12 +8,13 @@ pub use Rattle.patr_model.specs.Grammar.{Done, None', One, OneOf, Optional, Or, 
 pub use Rattle.patr_model.specs.Lexemes.{Words, after_first, all_digits, begins, by_text, is_index, is_key, is_keyword, is_kind, is_symbol, lower, without_index}
 pub use Rattle.patr_model.specs.Parsing.{Expected, Got, LaterForm, Parse, PathTooLong, Reads, Refusal, Stops, TooManySymbols, one, star, ◌>>=◌}
 unfoldable pub use Rattle.patr_model.specs.Parsing.{many}
-pub use Rattle.patr_model.specs.Productions.{AnyAttribute, AtomText, Clause, Equates, EquationText, FeatureText, Grammar, Head, Item, Left, LexicalRule, Names, NoRules, OfPath, Outcome, PathText, RuleClause, RuleText, Settings, Single, Stands, SymbolText, Template, TermText, attributes, before, begins_feature, begins_outer, begins_ruleitem, clause, concluded, feature, grammar, opens_equations, outcome, right_side, row, rule_equation, ruleitems, settings, single_feature, star_right, symbol_item, symbol_of, symbols_of, with_name, with_rules}
+pub use Rattle.patr_model.specs.Productions.{AnyAttribute, AtomText, Clause, Equates, EquationText, FeatureText, Grammar, Head, Item, Left, LexicalRule, Names, NoRules, OfPath, Outcome, PathText, RuleClause, RuleText, Settings, Single, Stands, SymbolText, Template, TermText, attributes, before, begins_feature, begins_outer, begins_ruleitem, clause, concluded, feature, grammar, opens_equations, outcome, right_side, row, rule_equation, ruleitems, settings, single_feature, star_right, symbol_item, symbol_of, with_name, with_rules}
 unfoldable pub use Rattle.patr_model.specs.Productions.{braced, clauses, elements, equation, item, lexical_rule, many_right, name_tokens, parameter, path, template, term, word_list}
 pub use Rattle.patr_model.specs.Renaming.{Both, Each, SameRow, SameRows'}
 pub use Rattle.patr_model.specs.Tokens.{Place, Token, after, scan, start_place, tokens_of}
 pub use Rattle.patr_model.specs.declared.lookahead.Kind.TheVariants.{CloseBrace, Equal, Greater, Less, OpenBrace, OpenParen, Word}
-pub use Rattle.patr_text.specs.Texts.{Extends, holds, with_text}
+pub use Rattle.patr_text.proofs.Extending.{extends_trans, extends_with, text_still}
+pub use Rattle.patr_text.specs.Texts.{Extends}
 unfoldable pub use Rattle.patr_text.specs.Texts.{first_texts}
 pub use Rattle.patr_text.specs.Tokens.{InOrder, IsCut, seen}
 pub use Rattle.patr_text.specs.declared.fault.Fault.{Fault}

@@ -1,7 +1,7 @@
 -- Words of the notation, and indices.
 use Rattle.std.proofs.Common.{◌≡◌, ℕ, zero, suc, ◌+◌, ◌-◌, ◌<◌, Bool, true, false, cond, ◌&&◌, List, [], ◌∷◌, ◌++◌, length, map, take, drop, IsTrue, ◌↔◌, refl, sym, ap, ◌∙◌, arith, add-one}
 use Rattle.std.proofs.lemmas.Bool.{false≢true}
-use Rattle.patr_grammar.proofs.Names.{after_first, all_digits, is_index, is_keyword, list_all, lower, nat_tests, take_rest, without_index}
+use Rattle.patr_grammar.proofs.Names.{after_first, all_digits, is_index, is_keyword, length-map, list_all, lower, nat_tests, take_rest, without_index}
 use Rattle.std.specs.Char.{to_ascii_lowercase, is_ascii_digit}
 use Rattle.patr_model.proofs.Canonical.{same_true, same_is}
 use Rattle.patr_model.specs.Bytes.{same_text}
@@ -39,6 +39,11 @@ pub keyword_by : (r : Bool) (word text : List ℕ) → map lower word ≡ word �
 keyword_by r word text low h =
     let e : map to_ascii_lowercase word ≡ word = lower_all word ∙ low in
     same_by r (map lower text) word (λ t. sym (lower_all text) ∙ h.0 t ∙ e, λ p. h.1 (lower_all text ∙ p ∙ sym e))
+
+-- a text of another length is another word
+pub other_length : (word text : List ℕ) → map lower word ≡ word → (length text ≡ length word → ⊥) → false ≡ is_keyword word text
+other_length word text low h =
+    keyword_by false word text low (λ e. absurd (false≢true e), λ e. absurd (h (sym (length-map text to_ascii_lowercase) ∙ ap length e ∙ length-map word to_ascii_lowercase)))
 
 walk_by : (bs : List ℕ) (n : ℕ) → n < length bs → is_index (drop n bs) ≡ false → take (suc n) bs ++ after_first (drop (suc n) bs) ≡ take n bs ++ after_first (drop n bs)
 walk_by [] n lt h = absurd (omega arith)

@@ -64,7 +64,7 @@ pub fn lexemes(
     ensures extends { Extends symbols.old symbols.new }
     ensures growth { length symbols.new ≤ length symbols.old + bytes_of tokens.now }
 {
-    let mut lexemes = Vec::new(alloc);
+    let mut lexemes = Vec::with_capacity(alloc, tokens.len())?;
     for token in tokens {
         let lexeme = lexeme(symbols, text, *token)?;
         lexemes.push(lexeme)?;

@@ -104,8 +104,7 @@ pub fn read_grammar(
         }
     };
     let lexemes = lexemes(alloc, symbols, text, &tokens)?;
-    // The table has `cat`, and no text of it stands twice: `len` says so.
-    symbols.len();
+    symbols.recall();
     read(alloc, text, &lexemes)
 }
 
@@ -150,7 +149,6 @@ pub fn read_elements(
     ensures growth { length symbols.new ≤ length symbols.old + bytes_of tokens.now }
 {
     let lexemes = lexemes(alloc, symbols, text, tokens)?;
-    // No text of the table stands twice: `len` says so.
-    symbols.len();
+    symbols.recall();
     features(alloc, text, &lexemes)
 }

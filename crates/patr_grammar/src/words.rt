@@ -9,6 +9,9 @@ fn is_keyword(text: &str, word: &str) -> bool
     requires { map lower word.now ≡ word.now }
     ensures { result ≡ is_keyword word.now text.now }
 {
+    if text.len() != word.len() {
+        return false;
+    }
     text.eq_ignore_ascii_case(word)
 }
 

@@ -8,7 +8,6 @@ pub mod Lines
 pub mod Listed
 pub mod Records
 pub mod Spaced
-pub mod Splits
 pub mod States
 pub mod Steps
 pub mod Trims

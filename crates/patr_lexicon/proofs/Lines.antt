@@ -1,8 +1,9 @@
 -- The lines of a lexicon, cut one by one from the front.
-use Rattle.std.proofs.Common.{◌≡◌, ℕ, suc, ◌+◌, ◌<◌, ◌≤◌, List, [], ◌∷◌, ◌++◌, length, get_or, drop, Bool, true, false, cond, ◌&&◌, nat_eq, Option, Some, None, refl, sym, ap, ◌∙◌, arith, length-append, drop-cons, add-one}
+use Rattle.std.proofs.Common.{◌≡◌, ℕ, suc, ◌+◌, ◌<◌, ◌≤◌, List, [], ◌∷◌, ◌++◌, length, get_or, take, drop, Bool, true, false, cond, not, ◌&&◌, nat_eq, Option, Some, None, refl, sym, ap, ◌∙◌, subst, arith, length-append, drop-cons, add-one}
 use Rattle.std.proofs.Math.ListN.{drop_of_length-le}
-use Rattle.patr_lexicon.proofs.Names.{IsCharBoundary, ne_eqb, Place, is_control, is_edge, control, NoLf, place_at, Cut, cut_at, pieces}
+use Rattle.patr_lexicon.proofs.Names.{IsCharBoundary, ne_eqb, Place, is_control, is_edge, control, NoLf, place_at, Cut, cut_at, pieces, prefix_len}
 use Rattle.std.proofs.lemmas.Bool.Decides.{nat_tests}
+use Rattle.std.proofs.lemmas.List.Sums.{prefix_len-le-length}
 
 no_first : (b : ℕ) (bs : List ℕ) → NoLf (b ∷ bs) → nat_eq 10 b ≡ false
 no_first b bs h = ne_eqb 10 b (λ e. h 0 (omega arith) (sym e))
@@ -40,6 +41,47 @@ line_ended text line rest is h = rw is (ap pieces_of_cut (cut_ended line rest h)
 pub line_last : (line : List ℕ) → NoLf line → pieces (nat_eq 10) line ≡ line ∷ []
 unfolding pieces_of_cut
 line_last line h = ap pieces_of_cut (cut_last line h)
+
+-- the pieces of a text, of which the first has n bytes
+module _ (test : ℕ → Bool) where
+  passes : ℕ → Bool
+  passes b = not (test b)
+
+  abbrev at_piece : List ℕ → ℕ → Cut
+  at_piece bs n = record { first = take n bs; rest = pieces test (drop (suc n) bs) }
+
+  cut_behind : (bs : List ℕ) → prefix_len passes bs < length bs → cut_at test bs ≡ at_piece bs (prefix_len passes bs)
+  unfolding passes
+  cut_behind [] h = absurd (omega arith)
+  cut_behind (b ∷ bs) h = go (test b) (cut_behind bs) h
+    where
+      go : (t : Bool) → (prefix_len passes bs < length bs → cut_at test bs ≡ at_piece bs (prefix_len passes bs)) → cond (not t) (1 + prefix_len passes bs) 0 < length (b ∷ bs)
+          → cond t (ended [] (cut_at test bs)) (onto b (cut_at test bs)) ≡ at_piece (b ∷ bs) (cond (not t) (1 + prefix_len passes bs) 0)
+      go true next lt = refl
+      go false next lt =
+          let more : suc (prefix_len passes bs) ≡ 1 + prefix_len passes bs = omega arith in
+          ap (onto b) (next (omega (arith, lt))) ∙ ap (at_piece (b ∷ bs)) more
+
+  cut_whole : (bs : List ℕ) → prefix_len passes bs ≡ length bs → cut_at test bs ≡ record { first = bs; rest = [] }
+  unfolding passes
+  cut_whole [] h = refl
+  cut_whole (b ∷ bs) h = go (test b) (cut_whole bs) h
+    where
+      go : (t : Bool) → (prefix_len passes bs ≡ length bs → cut_at test bs ≡ record { first = bs; rest = [] }) → cond (not t) (1 + prefix_len passes bs) 0 ≡ length (b ∷ bs)
+          → cond t (ended [] (cut_at test bs)) (onto b (cut_at test bs)) ≡ record { first = b ∷ bs; rest = [] }
+      go true next e = absurd (omega (arith, e))
+      go false next e = ap (onto b) (next (omega (arith, e)))
+
+  pub pieces_behind : (bs : List ℕ) (n : ℕ) → n ≡ prefix_len (λ b. not (test b)) bs → (n ≡ length bs → ⊥) → pieces test bs ≡ take n bs ∷ pieces test (drop (n + 1) bs)
+  unfolding passes pieces_of_cut
+  pieces_behind bs n is short =
+      let lt : n < length bs = omega (arith, short, subst (λ k. k ≤ length bs) (sym is) (prefix_len-le-length passes bs)) in
+      let more : suc n ≡ n + 1 = omega arith in
+      ap pieces_of_cut (cut_behind bs (subst (λ k. k < length bs) is lt) ∙ ap (at_piece bs) (sym is)) ∙ ap (λ k. take n bs ∷ pieces test (drop k bs)) more
+
+  pub pieces_whole : (bs : List ℕ) (n : ℕ) → n ≡ prefix_len (λ b. not (test b)) bs → n ≡ length bs → pieces test bs ≡ bs ∷ []
+  unfolding passes pieces_of_cut
+  pieces_whole bs n is all = ap pieces_of_cut (cut_whole bs (sym is ∙ all))
 
 pub line_len : (text line rest : List ℕ) → text ≡ line ++ 10 ∷ rest → length line + (1 + length rest) ≡ length text
 line_len text line rest is = omega (arith, ap length is, length-append line (10 ∷ rest))

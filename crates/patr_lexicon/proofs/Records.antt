@@ -1,6 +1,6 @@
 -- A record while it is read: what it becomes does not depend on how far it is read.
-use Rattle.std.proofs.Common.{◌≡◌, ℕ, Bool, false, cond, List, [], ◌∷◌, ◌++◌, flat_map, Option, Some, None, Result, Ok, refl, sym, ap, ◌∙◌, append-nil, append_assoc, length, arith}
-use Rattle.patr_lexicon.proofs.Names.{flat_map-append, Marker, without_empty, words_of, between_tabs, Row, FeatureText, stage}
+use Rattle.std.proofs.Common.{◌≡◌, ℕ, Bool, false, cond, List, [], ◌∷◌, ◌++◌, Option, Some, None, Result, Ok, refl, sym, ap, ◌∙◌, append-nil, append_assoc, length, arith}
+use Rattle.patr_lexicon.proofs.Names.{Marker, is_blank, pieces, without_empty, words_of, Row, FeatureText, stage}
 use Rattle.patr_model.specs.declared.field.Marker.TheVariants as marker
 use Rattle.patr_model.specs.LexiconLines.{Piece, Field}
 use Rattle.patr_model.specs.LexiconText as lexicon
@@ -10,7 +10,7 @@ use Rattle.patr_lexicon.proofs.Spaced.{without_append, words_of_text, spaced_non
 
 -- ---- words, texts and places
 
-plus_none : (x : Words) → plus x Empty ≡ x
+pub plus_none : (x : Words) → plus x Empty ≡ x
 plus_none Empty = refl
 plus_none (One w) = refl
 plus_none Several = refl
@@ -141,23 +141,20 @@ entry_is n ps os =
 
 -- ---- words one by one
 
-pub word_and : (w : Words) (xs : List (List ℕ)) (x : List ℕ) → plus (plus w (counted xs)) (One x) ≡ plus w (counted (xs ++ x ∷ []))
-word_and w xs x = plus_twice w (counted xs) (One x) ∙ ap (plus w) (sym (counted_two xs (x ∷ [])))
+pub no_word : (w : Words) (x : List ℕ) → length x ≡ 0 → w ≡ plus w (counted (without_empty (x ∷ [])))
+no_word w [] none = sym (plus_none w)
+no_word w (b ∷ bs) none = absurd (omega (arith, none))
 
--- one more part of a text, where it is empty or not
-pub part_same : (w : Words) (xs : List (List ℕ)) (x : List ℕ) → length x ≡ 0 → plus w (counted (without_empty xs)) ≡ plus w (counted (without_empty (xs ++ x ∷ [])))
-part_same w xs [] none = ap (λ l. plus w (counted l)) (sym (without_append xs ([] ∷ []) ∙ append-nil (without_empty xs)))
-part_same w xs (b ∷ bs) none = absurd (omega (arith, none))
+pub some_word : (x : List ℕ) → (length x ≡ 0 → ⊥) → One x ≡ counted (without_empty (x ∷ []))
+some_word [] some = absurd (some refl)
+some_word (b ∷ bs) some = refl
 
-pub part_and : (w : Words) (xs : List (List ℕ)) (x : List ℕ) → (length x ≡ 0 → ⊥) → plus (plus w (counted (without_empty xs))) (One x) ≡ plus w (counted (without_empty (xs ++ x ∷ [])))
-part_and w xs [] some = absurd (some refl)
-part_and w xs (b ∷ bs) some = word_and w (without_empty xs) (b ∷ bs) ∙ ap (λ l. plus w (counted l)) (sym (without_append xs ((b ∷ bs) ∷ [])))
-
-pub words_and : (w : Words) (xs : List (List ℕ)) (x : List ℕ) → plus (plus w (counted (flat_map between_tabs xs))) (counted (between_tabs x)) ≡ plus w (counted (flat_map between_tabs (xs ++ x ∷ [])))
-words_and w xs x =
-    plus_twice w (counted (flat_map between_tabs xs)) (counted (between_tabs x))
-    ∙ ap (plus w) (sym (counted_two (flat_map between_tabs xs) (between_tabs x)))
-    ∙ ap (λ l. plus w (counted l)) (ap (λ l. flat_map between_tabs xs ++ l) (sym (append-nil (between_tabs x))) ∙ sym (flat_map-append between_tabs xs (x ∷ [])))
+-- the words of a text are those of its first piece and those behind it
+pub words_step : (w v : Words) (text piece : List ℕ) (more : List (List ℕ)) → pieces is_blank text ≡ piece ∷ more → v ≡ plus w (counted (without_empty (piece ∷ []))) → plus w (counted (words_of text)) ≡ plus v (counted (without_empty more))
+words_step w v text piece more cut is =
+    let first = without_empty (piece ∷ []) in
+    ap (λ ps. plus w (counted (without_empty ps))) cut ∙ ap (λ ws. plus w (counted ws)) (without_append (piece ∷ []) more)
+    ∙ ap (plus w) (counted_two first (without_empty more)) ∙ sym (plus_twice w (counted first) (counted (without_empty more))) ∙ ap (λ x. plus x (counted (without_empty more))) (sym is)
 
 pub no_fields : (o : Open) → with_fields o [] ≡ o
 no_fields o = ap (λ ps. record o { features = ps }) (append-nil o.features)

@@ -1,7 +1,11 @@
 -- The reading of a lexicon, line by line.
-use Rattle.std.proofs.Common.{◌≡◌, ℕ, suc, ◌+◌, ◌≤◌, List, [], ◌∷◌, ◌++◌, length, nat_eq, Option, Some, None, Result, Ok, Err, Bor, refl, sym, ap, ◌∙◌, subst, arith, length-append, append-nil}
-use Rattle.patr_lexicon.proofs.Names.{pieces, Fields, kind, line_at, line_before, numbered, lines, fields_of, EntryText, EntryFault, read_fields, stage, Extends, State, Start, IsEntryOf, AreEntriesOf, record_seen, rest_lines, rest_len, then_rest, then_more, goes_on, ended_before, record_of, FailsFor, most_texts_of, IsKept, extends_trans}
+use Rattle.std.proofs.Common.{◌≡◌, ℕ, Bool, false, option_map, suc, ◌+◌, ◌≤◌, List, [], ◌∷◌, ◌++◌, length, nat_eq, Option, Some, None, Result, Ok, Err, Bor, refl, sym, ap, ◌∙◌, subst, arith, length-append, append-nil}
+use Rattle.patr_lexicon.proofs.Names.{Place, bad_token, pieces, Fields, kind, line_at, line_before, numbered, lines, fields_of, EntryText, EntryFault, read_fields, stage, Extends, State, Start, IsEntryOf, AreEntriesOf, record_seen, rest_lines, rest_len, then_rest, then_more, goes_on, ended_before, record_of, FailsFor, most_texts_of, IsKept, extends_trans}
+use Rattle.patr_model.specs.LexiconLines.{comments_after, control_in, or_later}
+use Rattle.patr_model.specs.declared.field.LexiconLine.{LexiconLine}
 use Rattle.patr_text.specs.declared.fault.Fault.{Fault}
+use Rattle.patr_text.specs.declared.token.BadToken.{BadToken}
+use Rattle.patr_lexicon.specs.Parts.{place_seen}
 use Rattle.patr_text.specs.declared.fault.Fault.TheVariants.{Memory, Refused}
 use Rattle.patr_lexicon.specs.declared.lexicon.Entry as code
 use Rattle.patr_lexicon.specs.declared.lexicon.LexiconCause.{LexiconCause}
@@ -93,6 +97,18 @@ module _ (old : List (List ℕ)) (text : List ℕ) (table : List (List ℕ)) (es
   all_read room h = (h.done, h.read ∙ more_none h.done, h.numbers)
 
 -- ---- one line
+
+-- a line without a bad character: the first one of the text stands behind it
+pub is_clean : (text : List ℕ) (comments : Bool) (n : ℕ) (rest line : List ℕ) (behind : Option (Bor (List ℕ))) (k : LexiconLine) (bad : Option BadToken) → pieces (nat_eq 10) rest ≡ line ∷ rest_lines behind → k ≡ kind line
+    → option_map place_seen bad ≡ control_in comments (line_at n line) k → bad_token false (lines text) ≡ bad_token comments (numbered n (pieces (nat_eq 10) rest)) → bad ≡ None
+    → bad_token false (lines text) ≡ bad_token (comments_after comments k) (numbered (n + 1) (rest_lines behind))
+is_clean text comments n rest line behind k bad cut is found h none =
+    let later : LexiconLine → Option Place = λ j. bad_token (comments_after comments j) (numbered (suc n) (rest_lines behind)) in
+    let next : suc n ≡ n + 1 = omega arith in
+    h ∙ ap (λ ls. bad_token comments (numbered n ls)) cut
+    ∙ ap (λ j. or_later (control_in comments (line_at n line) j) (later j)) (sym is)
+    ∙ ap (λ p. or_later p (later k)) (sym found ∙ ap (option_map place_seen) none)
+    ∙ ap (λ m. bad_token (comments_after comments k) (numbered m (rest_lines behind))) next
 
 pub line_left : (s : State) (n : ℕ) (rest line : List ℕ) (behind : Option (Bor (List ℕ))) → pieces (nat_eq 10) rest ≡ line ∷ rest_lines behind
     → left_at s n rest ≡ goes_on s (line_before (line_at n line) (kind line) (fields_of (numbered (suc n) (rest_lines behind))))

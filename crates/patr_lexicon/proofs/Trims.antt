@@ -1,6 +1,6 @@
 -- A text without spaces, tabs and CRs at its ends.
-use Rattle.std.proofs.Common.{◌≡◌, ℕ, suc, ◌+◌, ◌-◌, ◌<◌, ◌≤◌, List, [], ◌∷◌, ◌++◌, length, get_or, take, drop, reverse, Bool, true, false, cond, not, refl, sym, ap, ◌∙◌, subst, arith, length-drop}
-use Rattle.patr_lexicon.proofs.Names.{prefix_len, suffix_len, IsUtf8, IsCharBoundary, drop-append_seam, take-append-drop, reverse-append, reverse-reverse, length-reverse, get_or-reverse, IsCharBoundary-after_ascii, is_edge, begins_with, trimmed, trimmed_front}
+use Rattle.std.proofs.Common.{◌≡◌, ℕ, suc, ◌+◌, ◌-◌, ◌<◌, ◌≤◌, List, [], ◌∷◌, ◌++◌, length, get_or, take, drop, reverse, Bool, true, false, cond, not, ◌||◌, nat_eq, refl, sym, ap, ◌∙◌, subst, arith, length-drop}
+use Rattle.patr_lexicon.proofs.Names.{prefix_len, suffix_len, IsUtf8, IsCharBoundary, drop-append_seam, take-append-drop, reverse-append, reverse-reverse, length-reverse, get_or-reverse, IsCharBoundary-after_ascii, is_blank, is_edge, begins_with, trimmed, trimmed_front}
 use Rattle.std.proofs.lemmas.List.Sums.{prefix_len-le-length, prefix_len_passes, prefix_len_stops}
 use Rattle.patr_lexicon.proofs.Lines.{edge_is_ascii, edge_is_boundary}
 
@@ -64,3 +64,12 @@ marker_is_boundary (b ∷ bs) n is some =
 pub begins_some : (m : ℕ) (text : List ℕ) → begins_with m text ≡ true → 0 < length text
 begins_some m [] h = absurd cc
 begins_some m (b ∷ bs) h = omega arith
+
+-- a space or a tab ends the first word of a text: there a character begins, and behind it
+pub word_is_boundary : (text : List ℕ) (n : ℕ) → IsUtf8 text → n ≡ prefix_len (λ b. not (is_blank b)) text → (n ≡ length text → ⊥) → IsCharBoundary text n × IsCharBoundary text (n + 1)
+word_is_boundary text n utf8 is short =
+    let le : n ≤ length text = rw is (prefix_len-le-length (λ b. not (is_blank b)) text) in
+    let lt : n < length text = omega (arith, short, le) in
+    let blank : is_blank (get_or text n 0) ≡ true = not_not (is_blank (get_or text n 0)) (subst (λ k. not (is_blank (get_or text k 0)) ≡ false) (sym is) (prefix_len_stops (λ b. not (is_blank b)) text 0 (subst (λ k. k < length text) is lt))) in
+    let edge : is_edge (get_or text n 0) ≡ true = ap (λ t. t || nat_eq (get_or text n 0) 13) blank in
+    (edge_is_boundary text n (omega (arith, lt)) (λ _. edge), IsCharBoundary-after_ascii text n utf8 lt (edge_is_ascii (get_or text n 0) edge))

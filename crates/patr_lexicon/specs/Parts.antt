@@ -1,5 +1,5 @@
 -- The lines and pieces of the code, and what they are in the definition of lexicons.
-use Rattle.std.specs.Prelude.{◌≢◌, ℕ, ◌+◌, ◌<◌, List, [], ◌∷◌, length, get_or, map, Option, Some, None, nat_eq}
+use Rattle.std.specs.Prelude.{◌≢◌, ℕ, Bool, ◌+◌, ◌<◌, List, [], ◌∷◌, length, get_or, map, Option, Some, None, nat_eq}
 use Rattle.std.specs.Str.{IsCharBoundary}
 use Rattle.std.specs.String.{string_bytes}
 use denote.Ref.{Bor}
@@ -8,7 +8,7 @@ use Rattle.patr_model.specs.declared.field.LexiconLine.TheVariants.{Begins}
 use Rattle.patr_model.specs.Session.{pieces}
 use Rattle.patr_model.specs.Tokens.{Place}
 use Rattle.patr_model.specs.LexiconLines.{Piece}
-use Rattle.patr_lexicon.specs.declared.line.Place as code_place
+use Rattle.patr_text.specs.declared.token.BadToken.{BadToken}
 use Rattle.patr_lexicon.specs.declared.line.Piece as code_piece
 use Rattle.patr_lexicon.specs.declared.words.Words as code_words
 use Rattle.patr_lexicon.specs.declared.words.Words.TheVariants as code_count
@@ -21,10 +21,14 @@ use Rattle.patr_lexicon.specs.Records.{Words, Empty, One, Several, Open}
 abbrev pub NoLf : List ℕ → Type 0
 NoLf bs = (i : ℕ) → i < length bs → get_or bs i 0 ≢ 10
 
--- the lines of a rest that may be there
+-- the pieces of a rest that may be there, cut at the bytes that pass a test
+abbrev pub rest_pieces : (ℕ → Bool) → Option (Bor (List ℕ)) → List (List ℕ)
+rest_pieces test None = []
+rest_pieces test (Some rest) = pieces test rest.now
+
+-- its lines
 abbrev pub rest_lines : Option (Bor (List ℕ)) → List (List ℕ)
-rest_lines None = []
-rest_lines (Some rest) = pieces (nat_eq 10) rest.now
+rest_lines rest = rest_pieces (nat_eq 10) rest
 
 -- a rest, and the LF before it
 abbrev pub rest_text : Option (Bor (List ℕ)) → List ℕ
@@ -46,7 +50,7 @@ abbrev pub past : ℕ → ℕ → ℕ → Place
 past n k more = place_at n (k + more)
 
 -- a place of the code as one of the definition
-abbrev pub place_seen : code_place.Place → Place
+abbrev pub place_seen : BadToken → Place
 place_seen p = place_at p.line p.column
 
 -- a piece of the code as one of the definition

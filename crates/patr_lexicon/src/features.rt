@@ -84,6 +84,9 @@ impl<'a> Features<'a> {
         requires stand { All (λ p. StandsAt text.now p.start (piece_seen p)) self.now.pieces.items }
         ensures { IfOk result (λ tokens. AreCutFrom text.now (pieces_seen self.now.pieces.items) tokens.items) }
     {
+        if let [only] = self.pieces.as_slice() {
+            return tokens_of(alloc, text, *only);
+        }
         let mut all = Vec::new(alloc);
         for piece in &self.pieces {
             let mut tokens = tokens_of(alloc, text, *piece)?;

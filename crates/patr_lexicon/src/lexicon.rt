@@ -3,9 +3,9 @@ ghost use Rattle.std.specs.Prelude.{◌≡◌, ◌^◌, ◌<◌, length, IfOk};
 ghost use Rattle.patr_lists.specs.Numbers.{places};
 ghost use Rattle.patr_lexicon.specs.Entries.{is_of};
 
-use crate::listing::{list_of, numbers_by_word};
-use indexmap::IndexMap;
+use crate::listing::numbers_by_word;
 use patr_grammar::{Element, What, expected_text};
+use patr_lists::NumberLists;
 use patr_text::{Id, Memory};
 use std::alloc::Global;
 use std::marker::Model;
@@ -58,7 +58,7 @@ pub struct Entry {
 pub struct Lexicon {
     entries: Vec<Entry>,
     /// By the number of a word, the numbers of its entries, rising.
-    by_word: IndexMap<u32, Vec<u32>>,
+    by_word: NumberLists,
 }
 
 impl Model for Lexicon {
@@ -95,6 +95,6 @@ impl Lexicon {
     pub fn entries_of(&self, word: Id) -> &[u32]
         ensures { result.now ≡ places (is_of word.0) 0 self.now }
     {
-        list_of(&self.by_word, word.0)
+        self.by_word.list(word.0 as usize)
     }
 }

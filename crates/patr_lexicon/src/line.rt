@@ -1,5 +1,5 @@
 //! The lines of a lexicon: their kinds, their pieces, and places in them.
-ghost use Rattle.std.specs.Prelude.{◌≡◌, ◌+◌, ◌-◌, ◌∷◌, ◌++◌, ◌<◌, ◌≤◌, ◌^◌, length, nat_eq, drop, IfSome, ℕ, false, ◌&&◌};
+ghost use Rattle.std.specs.Prelude.{◌≡◌, ◌+◌, ◌-◌, ◌∷◌, ◌++◌, ◌<◌, ◌≤◌, ◌^◌, length, nat_eq, drop, IfSome, ℕ, false, not, ◌&&◌};
 ghost use Rattle.std.specs.Option.{option_map};
 ghost use Rattle.std.specs.List.{prefix_len, suffix_len};
 ghost use Rattle.patr_model.specs.Session.{is_blank, pieces};
@@ -7,18 +7,10 @@ ghost use Rattle.patr_model.specs.Tokens.{is_control};
 ghost use Rattle.patr_model.specs.LexiconLines.{is_edge, marker_len, blank_len, begins_with, is_white_line, is_comment, marker_of, kind, control, reads_comments, control_in, comments_after, bad_token, line_at, lines};
 ghost use Rattle.patr_model.specs.LexiconText.{trimmed};
 ghost use Rattle.patr_lexicon.specs.Reading.{place_at};
-ghost use Rattle.patr_lexicon.specs.Parts.{NoLf, rest_lines, rest_text, rest_len, IsCut, past, place_seen};
+ghost use Rattle.patr_lexicon.specs.Parts.{NoLf, rest_lines, rest_pieces, rest_text, rest_len, IsCut, past, place_seen};
 
 use patr_model::{LexiconLine, Marker};
-
-/// A place in a lexicon.
-#[derive(Clone, Copy)]
-pub struct Place {
-    /// The line, from 1.
-    pub line: u32,
-    /// 1 and the number of bytes before the place on its line.
-    pub column: u32,
-}
+use patr_text::BadToken;
 
 /// A line from a place on, up to the line's end.
 #[derive(Clone, Copy)]
@@ -121,6 +113,27 @@ pub fn cut_line(text: &str) -> (&str, Option<&str>)
     }
 }
 
+/// How many bytes stand before the first space or tab.
+fn word_len(text: &[u8]) -> usize
+    ensures len { result ≡ prefix_len (λ b. not (is_blank b)) text.now }
+    ensures within { result ≤ length text.now }
+{
+    text.iter().take_while(|byte| !is_blank(**byte)).count()
+}
+
+/// The first piece of a text that is cut at spaces and tabs, and what stands behind the byte that ends
+/// it, where there is one.
+pub fn cut_word(text: &str) -> (&str, Option<&str>)
+    ensures pieces { pieces is_blank text.now ≡ result.0.now ∷ rest_pieces is_blank result.1 }
+    ensures len { length result.0.now + rest_len result.1 ≡ length text.now }
+{
+    let len = word_len(text.as_bytes());
+    if len == text.len() {
+        return (text, None);
+    }
+    (&text[..len], Some(&text[len + 1..]))
+}
+
 fn is_control(byte: u8) -> bool
     ensures { result ≡ is_control byte }
 {
@@ -170,8 +183,20 @@ fn control_in(comments: bool, line: &str, kind: LexiconLine) -> Option<usize>
     }
 }
 
+/// The first bad character of a line of this number and this kind.
+pub fn bad_in(comments: bool, number: u32, line: &str, kind: LexiconLine) -> Option<BadToken>
+    requires { length line.now < 2 ^ 32 }
+    ensures { option_map place_seen result ≡ control_in comments (line_at number line.now) kind }
+{
+    let before = control_in(comments, line, kind)?;
+    Some(BadToken {
+        line: number,
+        column: 1 + before as u32,
+    })
+}
+
 /// Whether comments are read behind a line of this kind.
-fn comments_after(comments: bool, kind: LexiconLine) -> bool
+pub fn comments_after(comments: bool, kind: LexiconLine) -> bool
     ensures { result ≡ comments_after comments kind }
 {
     match kind {
@@ -182,7 +207,7 @@ fn comments_after(comments: bool, kind: LexiconLine) -> bool
 
 /// The place of the first bad character of a text: a control character that is no white space and
 /// stands outside comments.
-pub fn bad_token(text: &str) -> Option<Place>
+pub fn bad_token(text: &str) -> Option<BadToken>
     requires { length text.now < 2 ^ 32 - 1 }
     ensures { option_map place_seen result ≡ bad_token false (lines text.now) }
 {
@@ -192,11 +217,8 @@ pub fn bad_token(text: &str) -> Option<Place>
     'lines: loop {
         let (line, behind) = cut_line(rest);
         let kind = kind_of(line);
-        if let Some(before) = control_in(comments, line, kind) {
-            return Some(Place {
-                line: number,
-                column: 1 + before as u32,
-            });
+        if let Some(bad) = bad_in(comments, number, line, kind) {
+            return Some(bad);
         }
         let Some(behind) = behind else {
             return None;

@@ -1,21 +1,23 @@
 //! The reader of a lexicon.
 //!
-//! A first pass over the lines looks for bad characters. A second one goes from line to line with a state: the
-//! record that has begun, as far as it matters, and the marker of its last field.
-ghost use Rattle.std.specs.Prelude.{◌≡◌, ◌+◌, ◌-◌, ◌^◌, ◌<◌, ◌≤◌, List, length, Result, Ok, IfOk, IfErr};
-ghost use Rattle.patr_model.specs.LexiconLines.{lines, fields_of};
-ghost use Rattle.patr_model.specs.LexiconText.{EntryText as Text, EntryFault, read_fields};
+//! It goes from line to line with a state: the record that has begun, as far as it matters, and the marker of its last
+//! field. Bad characters come before all other causes, so what is refused is gone through once more for them.
+ghost use Rattle.std.specs.Prelude.{◌≡◌, ◌+◌, ◌-◌, ◌^◌, ◌<◌, ◌≤◌, List, length, Result, Ok, IfOk, IfErr, None, false};
+ghost use Rattle.patr_model.specs.LexiconLines.{lines, fields_of, bad_token};
+ghost use Rattle.patr_text.specs.declared.fault.Fault.TheVariants.{Refused};
+ghost use Rattle.patr_model.specs.LexiconText.{BadToken as Bad, EntryText as Text, EntryFault, Misread, read_fields};
 ghost use Rattle.patr_model.specs.Built.{stage};
 ghost use Rattle.patr_text.specs.Texts.{Extends};
 ghost use Rattle.patr_lexicon.specs.Laid.{IsLaidBefore};
-ghost use Rattle.patr_lexicon.specs.Reading.{StandsFor, IsRefusedFor, AreEntriesOf};
+ghost use Rattle.patr_lexicon.specs.Reading.{StandsFor, IsRefusedFor, AreEntriesOf, fault_of};
+ghost use Rattle.patr_lexicon.specs.Parts.{place_seen};
 ghost use Rattle.patr_lexicon.specs.States.{FailsFor, ended_before, most_texts_of, IsKept};
 
 use crate::lexicon::{Entry, Lexicon, LexiconCause};
-use crate::line::{bad_token, cut_line};
+use crate::line::{bad_in, bad_token, comments_after, cut_line, kind_of};
 use crate::record::Record;
 use crate::state::{State, Step};
-use patr_text::{Fault, Symbols};
+use patr_text::{BadToken, Fault, Symbols};
 use std::alloc::Global;
 
 /// What the bytes of a lexicon stand for, with the numbers that the table gives to its texts.
@@ -56,18 +58,34 @@ fn read_text(
     ensures growth { length symbols.new ≤ length symbols.old + length text.now }
     ensures few { IfOk result (λ lexicon. length lexicon ≤ length text.now) }
 {
-    if let Some(place) = bad_token(text) {
-        return Err(Fault::Refused(LexiconCause::BadToken {
-            line: place.line,
-            column: place.column,
-        }));
+    match read_records(alloc, symbols, text) {
+        Ok(entries) => Ok(Lexicon::new(alloc, entries)?),
+        Err(Fault::Memory) => Err(Fault::Memory),
+        Err(Fault::Refused(cause)) => Err(Fault::Refused(first_cause(text, cause))),
     }
-    let entries = read_records(alloc, symbols, text)?;
-    let lexicon = Lexicon::new(alloc, entries)?;
-    Ok(lexicon)
 }
 
-/// The entries of a text without bad characters.
+/// The cause of a bad character.
+fn cause_of(bad: BadToken) -> LexiconCause
+    ensures { fault_of result ≡ Misread (Bad (place_seen bad)) }
+{
+    let BadToken { line, column } = bad;
+    LexiconCause::BadToken { line, column }
+}
+
+/// Why a text is refused, of which this is a cause if it has no bad character.
+fn first_cause(text: &str, cause: LexiconCause) -> LexiconCause
+    requires short { length text.now < 2 ^ 32 - 1 }
+    requires cause { bad_token false (lines text.now) ≡ None → FailsFor (read_fields stage (fields_of (lines text.now))) (Refused cause) }
+    ensures { IsRefusedFor text.now (Refused result) }
+{
+    match bad_token(text) {
+        Some(bad) => cause_of(bad),
+        None => cause,
+    }
+}
+
+/// The entries of a text. Where it has a bad character it is refused, for no matter what cause.
 fn read_records(
     alloc: Global,
     symbols: &mut Symbols,
@@ -75,25 +93,32 @@ fn read_records(
 ) -> Result<Vec<Entry>, Fault<LexiconCause>>
     requires { length symbols.old + length text.now < 2 ^ 32 - 1 }
     ensures reads { IfOk result (λ entries. (texts : List Text) × (read_fields stage (fields_of (lines text.now)) ≡ Ok texts) × AreEntriesOf symbols.new entries.items texts) }
-    ensures refused { IfErr result (λ fault. FailsFor (read_fields stage (fields_of (lines text.now))) fault) }
+    ensures clean { IfOk result (λ _. bad_token false (lines text.now) ≡ None) }
+    ensures refused { IfErr result (λ fault. bad_token false (lines text.now) ≡ None → FailsFor (read_fields stage (fields_of (lines text.now))) fault) }
     ensures extends { Extends symbols.old symbols.new }
     ensures growth { length symbols.new ≤ length symbols.old + length text.now }
     ensures few { IfOk result (λ entries. length entries.items ≤ length text.now) }
 {
     let mut entries = Vec::new(alloc);
     let mut state = State::Start;
+    let mut comments = false;
     let mut rest = text;
     let mut start = 0;
     let mut number = 1;
     'lines: loop {
         let (line, behind) = cut_line(rest);
-        let Step { state: next, ended } = state.line(alloc, start, number, line)?;
+        let kind = kind_of(line);
+        if let Some(bad) = bad_in(comments, number, line, kind) {
+            return Err(Fault::Refused(cause_of(bad)));
+        }
+        let Step { state: next, ended } = state.line(alloc, start, number, line, kind)?;
         keep(alloc, &mut entries, symbols, text, ended)?;
         let Some(behind) = behind else {
             keep(alloc, &mut entries, symbols, text, next.record())?;
             return Ok(entries);
         };
         state = next;
+        comments = comments_after(comments, kind);
         rest = behind;
         start += line.len() + 1;
         number += 1;

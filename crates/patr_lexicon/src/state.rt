@@ -3,11 +3,11 @@ ghost use Rattle.std.specs.Prelude.{◌≡◌, ◌+◌, ◌-◌, ◌^◌, ◌<�
 ghost use Rattle.patr_model.specs.declared.field.Marker.TheVariants as markers;
 ghost use Rattle.patr_model.specs.LexiconLines.{Fields, kind, line_at, line_before};
 ghost use Rattle.patr_lexicon.specs.Laid.{StandsAt, end_byte, IsLaidBefore};
-ghost use Rattle.patr_lexicon.specs.Parts.{piece_seen};
+ghost use Rattle.patr_lexicon.specs.Parts.{piece_seen, IsCut};
 ghost use Rattle.patr_lexicon.specs.States.{Follows, goes_on, ended_before, record_of, most_texts_of};
 
 use crate::lexicon::LexiconCause;
-use crate::line::{Piece, kind_of};
+use crate::line::Piece;
 use crate::record::Record;
 use patr_model::{LexiconLine, Marker};
 use patr_text::Fault;
@@ -112,7 +112,8 @@ impl<'a> State<'a> {
         }
     }
 
-    /// What a line, without its LF, makes of a state. The line begins at byte `start` of the whole text.
+    /// What a line, without its LF, makes of a state. The line begins at byte `start` of the whole text,
+    /// and is of this kind.
     /// `NoWord` is answered exactly where the line is text before the first `\w`. Fails else for want of
     /// memory alone.
     pub fn line(
@@ -121,13 +122,16 @@ impl<'a> State<'a> {
         start: usize,
         number: u32,
         line: &'a str,
+        of: LexiconLine,
     ) -> Result<Step<'a>, Fault<LexiconCause>>
-        requires { start + length line.now < 2 ^ 32 - 1 }
+        requires short { start + length line.now < 2 ^ 32 - 1 }
+        requires kind { of ≡ kind line.now }
+        requires cut { IsCut line.now of }
         ensures reads { (fs : Fields) → Follows (goes_on self.entry (line_before (line_at number line.now) (kind line.now) fs)) result (λ s. ended_before s.ended (goes_on s.state fs)) }
         ensures most_texts { IfOk result (λ s. most_texts_of s.ended + most_texts_of (record_of s.state) ≤ most_texts_of (record_of self.entry) + length line.now) }
         ensures laid { (text : List ℕ) → StandsAt text start (line_at number line.now) → IsLaidBefore text start (record_of self.entry) → IfOk result (λ s. IsLaidBefore text (start + length line.now) s.ended × IsLaidBefore text (start + length line.now) (record_of s.state)) }
     {
-        match kind_of(line) {
+        match of {
             LexiconLine::Ignored => Ok(Step {
                 state: self,
                 ended: None,

@@ -1,9 +1,10 @@
 //! How many words a text has, and the word where it is the only one.
-ghost use Rattle.std.specs.Prelude.{◌≡◌};
-ghost use Rattle.patr_model.specs.Session.{words_of};
-ghost use Rattle.patr_lexicon.specs.Split.{between_tabs};
+ghost use Rattle.std.specs.Prelude.{◌≡◌, ◌∷◌, []};
+ghost use Rattle.patr_model.specs.Session.{words_of, without_empty};
 ghost use Rattle.patr_lexicon.specs.Records.{One, counted, plus};
 ghost use Rattle.patr_lexicon.specs.Parts.{words_seen};
+
+use crate::line::cut_word;
 
 /// How many words there are, and the word where it is the only one.
 #[derive(Clone, Copy)]
@@ -27,18 +28,14 @@ impl<'a> Words<'a> {
         }
     }
 
-    /// These words and those of a text without spaces.
-    fn and_parts(self, text: &'a str) -> Words<'a>
-        ensures { words_seen result ≡ plus (words_seen self.entry) (counted (between_tabs text.now)) }
+    /// These words and a text without spaces and tabs, if it is not empty.
+    fn and_piece(self, piece: &'a str) -> Words<'a>
+        ensures { words_seen result ≡ plus (words_seen self.entry) (counted (without_empty (piece.now ∷ []))) }
     {
-        let mut words = self;
-        for word in text.split('\t') {
-            if word.is_empty() {
-                continue;
-            }
-            words = words.and(word);
+        if piece.is_empty() {
+            return self;
         }
-        words
+        self.and(piece)
     }
 
     /// These words and those of a text, cut at spaces and tabs.
@@ -46,9 +43,14 @@ impl<'a> Words<'a> {
         ensures { words_seen result ≡ plus (words_seen self.entry) (counted (words_of text.now)) }
     {
         let mut words = self;
-        for part in text.split(' ') {
-            words = words.and_parts(part);
+        let mut rest = text;
+        'words: loop {
+            let (piece, behind) = cut_word(rest);
+            words = words.and_piece(piece);
+            let Some(behind) = behind else {
+                return words;
+            };
+            rest = behind;
         }
-        words
     }
 }

@@ -1,7 +1,7 @@
 use Rattle.std.proofs.Common.{◌∷◌, [], ◌++◌, List, map, take, subst, arith}
-use Rattle.patr_grammar.proofs.Names.{Each, IsLexeme, Token, seen, take_all}
+use Rattle.patr_grammar.proofs.Names.{Each, IsLexeme, Token, extends_trans, seen, take_all}
 use Rattle.patr_grammar.proofs.Bytes.{bytes_more, bytes_within, map_more}
-use Rattle.patr_grammar.proofs.Tables.{each_push, extends_trans, lexemes_still}
+use Rattle.patr_grammar.proofs.Tables.{each_push, lexemes_still}
 use Rattle.patr_grammar.proofs.numbering.lexemes.Goals as goal
 
 pub lexeme-requires-clause-room : goal.lexeme-requires-clause-room

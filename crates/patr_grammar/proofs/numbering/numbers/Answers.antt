@@ -1,6 +1,5 @@
 use Rattle.std.proofs.Common.{ℕ, List, length, sym, ap, ◌∙◌, subst}
-use Rattle.patr_grammar.proofs.Names.{Extends, IsText}
-use Rattle.patr_grammar.proofs.Tables.{text_still, extends_with}
+use Rattle.patr_grammar.proofs.Names.{Extends, IsText, extends_with, text_still}
 use Rattle.patr_grammar.proofs.Texts.{has_no_index}
 use Rattle.patr_grammar.proofs.numbering.numbers.Goals as goal
 

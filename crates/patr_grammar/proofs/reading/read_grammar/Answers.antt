@@ -63,7 +63,7 @@ answered_of : (c : goal.After-drop-tokens-2) → IfOk c.read.result (λ g. Stand
 answered_of c =
     let text = c.in-Ok.text.now in
     let utf8 = subst IsUtf8 (sym c.in-Ok.ensures.cases.0) c.in-Ok.ensures.cases.1 in
-    answered c.lexemes.new.symbols text (map (seen text) c.in-Ok-tokens.tokens.items) utf8 (scanned c) c.deref-2.result.now c.read.result c.len.ensures.one_to_one c.len.ensures.first (each c) c.read.ensures.answers
+    answered c.lexemes.new.symbols text (map (seen text) c.in-Ok-tokens.tokens.items) utf8 (scanned c) c.deref-2.result.now c.read.result c.recall.ensures.one_to_one c.recall.ensures.first (each c) c.read.ensures.answers
 
 pub returns-clause-reads : goal.returns-clause-reads
 returns-clause-reads c = rw (← c.in-Ok.ensures.cases.0) (answered_of c).0

@@ -1,18 +1,20 @@
-use Rattle.std.proofs.Common.{◌∷◌, [], List, ℕ, map, flat_map, Bor, sym, ap, ◌∙◌, lit<}
-use Rattle.patr_lexicon.proofs.Names.{map-append, YieldsList-end, YieldsList-from_str_split, between_tabs, counted, plus, words_seen}
-use Rattle.patr_lexicon.proofs.Splits.{words_by_parts}
-use Rattle.patr_lexicon.proofs.Records.{words_and}
+use Rattle.std.proofs.Common.{◌∷◌, sym, ap, ◌∙◌, rules}
+use Rattle.patr_lexicon.proofs.Names.{is_blank, rest_pieces, words_seen}
+use Rattle.patr_lexicon.proofs.Records.{plus_none, words_step}
 use Rattle.patr_lexicon.proofs.words.Words.and_words.Goals as goal
 
-pub loop-part-preserved : goal.loop-part-preserved
-loop-part-preserved c =
-    let now : List (Bor (List ℕ)) → List (List ℕ) = λ l. map (λ (w : Bor (List ℕ)). w.now) l in
-    c.and_parts-words.ensures
-    ∙ ap (λ w. plus w (counted (between_tabs c.in-Some.part.now))) c.loop-part.invariant
-    ∙ words_and (words_seen c.args.self) (now c.loop-part.yielded) c.in-Some.part.now
-    ∙ ap (λ l. plus (words_seen c.args.self) (counted (flat_map between_tabs l))) (sym (map-append (λ (w : Bor (List ℕ)). w.now) c.loop-part.yielded (c.in-Some.part ∷ [])))
+pub words-preserved : goal.words-preserved
+words-preserved c =
+    let piece = c.cut_word.result.0.now in
+    let cut = c.cut_word.ensures.pieces ∙ ap (λ b. piece ∷ rest_pieces is_blank b) c.in-Some.is in
+    record {
+      words = sym (words_step (words_seen c.words.words) (words_seen c.and_piece-words.result) c.words.rest.now piece _ cut c.and_piece-words.ensures) ∙ c.words.invariant.words;
+      utf8 = search rules;
+    }
 
-pub returns : goal.returns
-returns c =
-    let e = YieldsList-end (YieldsList-from_str_split 32 c.args.text.now (lit< tt) (cc) (cc) (cc)) c.loop-part.yielded _ c.loop-part.yielded_by _ _ c.in-None.is c.next.ensures.steps in
-    c.loop-part.invariant ∙ ap (λ l. plus (words_seen c.args.self) (counted l)) (ap (flat_map between_tabs) e.0 ∙ words_by_parts c.args.text.now)
+pub returns-in_default : goal.returns-in_default
+returns-in_default c =
+    let piece = c.cut_word.result.0.now in
+    let cut = c.cut_word.ensures.pieces ∙ ap (λ b. piece ∷ rest_pieces is_blank b) c.in_default.is in
+    let words = words_seen c.and_piece-words.result in
+    sym (plus_none words) ∙ sym (words_step (words_seen c.words.words) words c.words.rest.now piece _ cut c.and_piece-words.ensures) ∙ c.words.invariant.words

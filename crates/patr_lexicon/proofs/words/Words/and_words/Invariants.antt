@@ -1,6 +1,14 @@
-use Rattle.std.proofs.Common.{◌≡◌, List, ℕ, map, flat_map, Bor}
-use Rattle.patr_lexicon.proofs.Names.{between_tabs, counted, plus, words_seen}
+use Rattle.std.proofs.Common.{◌≡◌, length}
+use denote.Text.{Utf8}
+use denote.Shadow.{shadow}
+use Rattle.patr_lexicon.proofs.Names.{counted, plus, words_of, words_seen}
 use Rattle.patr_lexicon.proofs.words.Words.and_words.Given as goal
 
-abbrev pub invariant-loop-part : goal.invariant-loop-part
-invariant-loop-part l = words_seen l.words ≡ plus (words_seen l.fn.self) (counted (flat_map between_tabs (map (λ (w : Bor (List ℕ)). w.now) l.yielded)))
+abbrev pub invariant-words : goal.invariant-words
+invariant-words l = record {
+  words : plus (words_seen l.words) (counted (words_of l.rest)) ≡ plus (words_seen l.fn.self) (counted (words_of l.fn.text));
+  utf8 : shadow (Utf8 l.rest);
+}
+
+abbrev pub decreases-words : goal.decreases-words
+decreases-words l = length l.rest
