@@ -153,14 +153,7 @@ impl Scratch {
         ensures { self.new ≡ put self.old side number (record (marks self.old side number) { forward = Some to }) }
     {
         let slot = self.table.slot(side, number);
-        let mark = self.table.get(slot);
-        self.table.set(
-            slot,
-            Mark {
-                forward: Some(to),
-                ..mark
-            },
-        );
+        self.table.set_forward(slot, to);
     }
 
     /// The cell of the place's first added arc. `None` exactly where it has none.
@@ -192,7 +185,7 @@ impl Scratch {
         ensures { self.new ≡ with_arc self.old side number attribute to }
     {
         let slot = self.table.slot(side, number);
-        let mark = self.table.get(slot);
+        let mark = *self.table.get(slot);
         let cell = self.arcs.len();
         let next = first_of(mark.added);
         let last = last_or(mark.added, cell);
@@ -220,11 +213,11 @@ impl Scratch {
     {
         let from_slot = self.table.slot(from_side, from);
         let to_slot = self.table.slot(to_side, to);
-        let source = self.table.get(from_slot);
+        let source = *self.table.get(from_slot);
         let Some(moved) = source.added else {
             return;
         };
-        let target = self.table.get(to_slot);
+        let target = *self.table.get(to_slot);
         let next = first_of(target.added);
         let last = last_or(target.added, moved.last);
         let joint = self.arcs.get(moved.last as usize);
@@ -263,14 +256,7 @@ impl Scratch {
         ensures { self.new ≡ put self.old side number (record (marks self.old side number) { copied = Some made }) }
     {
         let slot = self.table.slot(side, number);
-        let mark = self.table.get(slot);
-        self.table.set(
-            slot,
-            Mark {
-                copied: Some(made),
-                ..mark
-            },
-        );
+        self.table.set_copied(slot, made);
     }
 
     /// What this generation last set as the place's visit, and `Unseen` where it set none.
@@ -287,14 +273,7 @@ impl Scratch {
         ensures { self.new ≡ put self.old side number (record (marks self.old side number) { visit = state }) }
     {
         let slot = self.table.slot(side, number);
-        let mark = self.table.get(slot);
-        self.table.set(
-            slot,
-            Mark {
-                visit: state,
-                ..mark
-            },
-        );
+        self.table.set_visit(slot, state);
     }
 
     /// Puts a pair on the stack of pairs. Condition: there is room for one more.
