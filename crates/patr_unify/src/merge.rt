@@ -1,26 +1,27 @@
 //! One place becomes another: the forward, and what the arcs of both come to.
-ghost use Rattle.std.specs.Prelude.{◌≡◌, ◌≢◌, ◌+◌, ◌<◌, ◌≤◌, ◌++◌, [], ℕ, length};
+ghost use Rattle.std.specs.Prelude.{◌≡◌, ◌≢◌, ◌+◌, ◌<◌, ◌≤◌, ◌++◌, [], ℕ, false, length};
 ghost use Rattle.patr_model.specs.Structure.{along};
 ghost use Rattle.patr_marks.specs.Machine.{has_attribute, matches, own};
 ghost use Rattle.patr_marks.specs.Sides.{sides};
 ghost use Rattle.patr_arena.specs.Shown.{IsHeld};
-ghost use Rattle.patr_unify.specs.Merging.{HasMergeRoom, IsGiven, IsMerged, IsPushed, IsTaken, both, one_pair};
+ghost use Rattle.patr_unify.specs.Merging.{HasMergeRoom, IsFoundInOwn, IsGiven, IsMerged, IsPushed, IsTaken, both, one_pair};
 ghost use Rattle.patr_scratch.specs.Contents.{EndsOrHas, HasPlace, after, marks};
 ghost use Rattle.patr_unify.specs.Reading.{AreHeld, PairsHeld, TargetIsHeld, added_of, has_link, key, pairs_at, value_at};
 
 use crate::ends::{address, number};
-use crate::lists::{find, has_added, listed, own_target};
+use crate::lists::{find, has_added, is_extended, listed, own_target};
 use patr_arena::Nodes;
 use patr_scratch::{Added, Place, Scratch, Side, Target};
 
 /// An own arc of `from` is given to `to`. Where `to` has the attribute, both targets are pushed as a pair. An
-/// attribute of a later arc of `from` is left to that arc.
+/// attribute of a later arc of `from` is left to that arc. The added arcs of `to` are looked through if it is `extended`.
 fn give_arc<N: Nodes>(
     nodes: &N,
     from: Place,
     to: Place,
     attribute: u32,
     target: Target,
+    extended: bool,
     scratch: &mut Scratch,
 )
     requires from { IsHeld (N.shown nodes.now) from.block from.offset }
@@ -30,18 +31,20 @@ fn give_arc<N: Nodes>(
     requires pairs_held { PairsHeld (N.shown nodes.now) scratch.old.pairs }
     requires pair_room { length scratch.old.pairs + length (one_pair (has_attribute (added_of (N.shown nodes.now) scratch.old (key (N.shown nodes.now) from)) attribute) (along (both (N.shown nodes.now) scratch.old (key (N.shown nodes.now) to)) attribute) (value_at (N.shown nodes.now) target)) ≤ scratch.old.pair_room }
     requires arc_room { scratch.old.arcs < scratch.old.arc_room }
+    requires extended { extended ≡ false → IsFoundInOwn (N.shown nodes.now) scratch.old (key (N.shown nodes.now) to) attribute }
     ensures { IsGiven (N.shown nodes.now) scratch.old scratch.new (key (N.shown nodes.now) from) (key (N.shown nodes.now) to) attribute (value_at (N.shown nodes.now) target) }
 {
     if has_added(scratch, from.side, number(nodes, from), attribute) {
         return;
     }
-    match find(nodes, scratch, to, attribute) {
+    match find(nodes, scratch, to, attribute, extended) {
         Some(other) => scratch.push_pair(target, other),
         None => scratch.add_arc(to.side, number(nodes, to), attribute, target),
     }
 }
 
-/// All own arcs of `from` are given to `to`.
+/// All own arcs of `from` are given to `to`. Their attributes differ, so each can only meet an arc that `to` had before:
+/// where it had no added ones, those that it gets are not looked through.
 fn give_own<N: Nodes>(nodes: &N, from: Place, to: Place, scratch: &mut Scratch)
     requires from { IsHeld (N.shown nodes.now) from.block from.offset }
     requires to { IsHeld (N.shown nodes.now) to.block to.offset }
@@ -51,10 +54,19 @@ fn give_own<N: Nodes>(nodes: &N, from: Place, to: Place, scratch: &mut Scratch)
     requires room { HasMergeRoom (N.shown nodes.now) scratch.old (key (N.shown nodes.now) from) (key (N.shown nodes.now) to) }
     ensures { IsTaken (N.shown nodes.now) scratch.old scratch.new (key (N.shown nodes.now) from) (key (N.shown nodes.now) to) [] }
 {
+    let extended = is_extended(nodes, scratch, to);
     let at = address(from);
     for feature in nodes.arcs(at) {
         let target = own_target(nodes, from, feature.to);
-        give_arc(nodes, from, to, feature.attribute.0, target, scratch);
+        give_arc(
+            nodes,
+            from,
+            to,
+            feature.attribute.0,
+            target,
+            extended,
+            scratch,
+        );
     }
 }
 
@@ -79,7 +91,7 @@ fn pair_arc<N: Nodes>(
     if listed(scratch, side, number, arc.next, arc.attribute) {
         return;
     }
-    match find(nodes, scratch, to, arc.attribute) {
+    match find(nodes, scratch, to, arc.attribute, true) {
         Some(other) => scratch.push_pair(arc.to, other),
         None => (),
     }

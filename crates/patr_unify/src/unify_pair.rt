@@ -8,6 +8,7 @@ ghost use Rattle.patr_scratch.specs.Contents.{KeepsRoom};
 ghost use Rattle.patr_unify.specs.Reading.{AreHeld, PairsHeld, TargetIsHeld, key};
 ghost use Rattle.patr_unify.specs.Stepping.{BareOrNot, BoundOrNot, Covers, HasLog, IsRunning, IsSteady, MergesFit, Outcome};
 
+use crate::clash::atoms_differ;
 use crate::ends::{address, dereference, number};
 use crate::merge::merge;
 use patr_arena::Nodes;
@@ -18,17 +19,7 @@ fn same_place(a: Place, b: Place) -> bool
     ensures yes { result ≡ true → a ≡ b }
     ensures no { a ≡ b → result ≡ true }
 {
-    let same_side = match a.side {
-        Side::Left => match b.side {
-            Side::Left => true,
-            Side::Right => false,
-        },
-        Side::Right => match b.side {
-            Side::Left => false,
-            Side::Right => true,
-        },
-    };
-    same_side && a.block == b.block && a.offset == b.offset
+    a == b
 }
 
 /// Whether `first` is the one to be forwarded; no promise rests on it. Of two places at one address the right side's:
@@ -95,6 +86,9 @@ pub(crate) fn unify_pair<N: Nodes>(nodes: &N, a: Target, b: Target, scratch: &mu
             Target::Place(second) => {
                 if same_place(first, second) {
                     return true;
+                }
+                if atoms_differ(nodes, first, second) {
+                    return false;
                 }
                 if goes_first(nodes, scratch, first, second) {
                     merge(nodes, first, second, scratch);

@@ -5,7 +5,7 @@ use Rattle.patr_marks.specs.Sides.{sides}
 use Rattle.patr_unify.specs.Merging.{IsTaken, IsGiven, both, one_pair}
 use Rattle.patr_unify.specs.Reading.{key, added_of}
 use Rattle.patr_unify.proofs.Loops.{blank, own_arc, own_end}
-use Rattle.patr_unify.proofs.Takes.{taken_step, pair_fits, arc_fits, arc_of, rest_lacks}
+use Rattle.patr_unify.proofs.Takes.{taken_step, pair_fits, arc_fits, arc_of, found_in_own, rest_lacks}
 use Rattle.patr_unify.proofs.merge.give_own.Goals as goal
 
 pub own_target-target-requires : goal.own_target-target-requires
@@ -38,6 +38,7 @@ give_arc-requires g c =
       pair_room = subst (λ (x : Value). length t.pairs + length (one_pair (has_attribute (added_of v t A) e.attribute) (along (both v t B) e.attribute) x) ≤ t.pair_room) (sym c.own_target-target.ensures.same)
           (pair_fits v w t A B e rest c.requires.apart (rest_lacks v s A i e rest a.next) taken c.requires.room);
       arc_room = arc_fits v w t A B e rest taken c.requires.room;
+      extended = λ bare. found_in_own v w t A B e rest taken (c.is_extended-extended.ensures bare);
     }
 
 pub loop-feature-preserved : goal.loop-feature-preserved
