@@ -18,13 +18,6 @@ later_none stamp (c ∷ cs) h =
     ap (λ b. cond b c.mark blank ∷ marks_of stamp cs) (ne_eqb c.stamp stamp n)
     ∙ ap (λ ms. blank ∷ ms) (later_none stamp cs (All-tail (λ c. c.stamp < stamp) c cs h))
 
--- a cell of the present generation is written
-pub marks_set : (stamp : ℕ) (cells : List Cell) (ms : List Mark) (k : ℕ) (new : Cell) (m : Mark) → marks_of stamp cells ≡ ms → new.stamp ≡ stamp
-    → new.mark ≡ m → marks_of stamp (set cells k new) ≡ set ms k m
-marks_set stamp cells ms k new m e s h =
-    map-set (mark_of stamp) cells k new
-    ∙ (ap (λ u. set (marks_of stamp cells) k u) (ap (λ b. cond b new.mark blank) (eq-eqb new.stamp stamp s) ∙ h) ∙ ap (λ us. set us k m) e)
-
 mark_read : (stamp : ℕ) (cells : List Cell) (k : ℕ) (c : Cell) → k < length cells → c ≡ get_or cells k c → mark_of stamp c ≡ mark_at (marks_of stamp cells) k
 mark_read stamp [] k c l e = absurd (omega (arith, l))
 mark_read stamp (d ∷ cs) zero c l e = ap (mark_of stamp) e
@@ -42,8 +35,9 @@ pub marks_changed : (stamp : ℕ) (cells : List Cell) (ms : List Mark) (k : ℕ)
     → marks_of stamp (set cells k (record { stamp = new.stamp; mark = f new.mark })) ≡ set ms k (f (mark_at ms k))
 marks_changed stamp cells ms k old new f e l q r =
     let read = mark_read stamp cells k old (omega (arith, l, marks_length stamp cells ms e)) q in
-    marks_set stamp cells ms k (record { stamp = new.stamp; mark = f new.mark }) (f (mark_at ms k)) e (ap (λ (c : Cell). c.stamp) r)
-    (ap (λ (c : Cell). f c.mark) r ∙ ap f (read ∙ ap (λ us. mark_at us k) e))
+    map-set (mark_of stamp) cells k (record { stamp = new.stamp; mark = f new.mark })
+    ∙ (ap (set (marks_of stamp cells) k) (ap (λ b. cond b (f new.mark) blank) (eq-eqb new.stamp stamp (ap (λ (c : Cell). c.stamp) r)) ∙ ap (λ (c : Cell). f c.mark) r ∙ ap f read)
+    ∙ ap (λ us. set us k (f (mark_at us k))) e)
 
 -- a later generation
 pub marks_later : (stamp new : ℕ) (cells : List Cell) (ms : List Mark) (cells' : List Cell) → marks_of stamp cells ≡ ms → length cells' ≡ length cells → All (λ c. c.stamp < new) cells' → marks_of new cells' ≡ no_marks (length ms)

@@ -5,7 +5,7 @@ ghost use Rattle.patr_scratch.specs.Contents.{HasPlace, HasCell, HasRoom, IsArcO
 
 use crate::arc::ArcCell;
 use crate::stack::Stack;
-use crate::table::{Ends, Mark, Table};
+use crate::table::{Ends, Table};
 use crate::{Added, Copied, Memory, Place, Side, Target, Visit};
 use std::alloc::{AllocError, Global};
 use std::marker::Model;
@@ -185,7 +185,7 @@ impl Scratch {
         ensures { self.new ≡ with_arc self.old side number attribute to }
     {
         let slot = self.table.slot(side, number);
-        let mark = *self.table.get(slot);
+        let mark = self.table.get(slot);
         let cell = self.arcs.len();
         let next = first_of(mark.added);
         let last = last_or(mark.added, cell);
@@ -194,13 +194,7 @@ impl Scratch {
             to,
             next,
         });
-        self.table.set(
-            slot,
-            Mark {
-                added: Some(Ends { first: cell, last }),
-                ..mark
-            },
-        );
+        self.table.set_added(slot, Some(Ends { first: cell, last }));
     }
 
     /// Puts the first place's added arcs before those of the second. The first place has none then. It takes no room.
@@ -213,33 +207,19 @@ impl Scratch {
     {
         let from_slot = self.table.slot(from_side, from);
         let to_slot = self.table.slot(to_side, to);
-        let source = *self.table.get(from_slot);
+        let source = self.table.get(from_slot);
         let Some(moved) = source.added else {
             return;
         };
-        let target = *self.table.get(to_slot);
+        let target = self.table.get(to_slot);
         let next = first_of(target.added);
         let last = last_or(target.added, moved.last);
         let joint = self.arcs.get(moved.last as usize);
         self.arcs
             .set(moved.last as usize, ArcCell { next, ..joint });
-        self.table.set(
-            to_slot,
-            Mark {
-                added: Some(Ends {
-                    first: moved.first,
-                    last,
-                }),
-                ..target
-            },
-        );
-        self.table.set(
-            from_slot,
-            Mark {
-                added: None,
-                ..source
-            },
-        );
+        let first = moved.first;
+        self.table.set_added(to_slot, Some(Ends { first, last }));
+        self.table.set_added(from_slot, None);
     }
 
     /// What the place was copied to. `None` exactly where this generation set no copy there.

@@ -135,15 +135,14 @@ impl Table {
         }
     }
 
-    /// Sets a mark in this generation.
-    pub(crate) fn set(&mut self, slot: usize, mark: Mark)
+    /// Sets the ends of a list of added arcs in this generation, and keeps what else it set there.
+    pub(crate) fn set_added(&mut self, slot: usize, added: Option<Ends>)
         requires { slot < length self.old }
-        ensures { self.new ≡ set self.old slot mark }
+        ensures { self.new ≡ set self.old slot (record (mark_at self.old slot) { added = added }) }
     {
-        self.cells[slot] = Cell {
-            stamp: self.stamp,
-            mark,
-        };
+        let cell = &mut self.cells[slot];
+        cell.renew(self.stamp);
+        cell.mark.added = added;
     }
 
     /// Sets a forward in this generation, and keeps what else it set there.
