@@ -3,9 +3,10 @@ use Rattle.std.specs.Prelude.{◌≡◌, ◌≢◌, ℕ, ◌+◌, ◌≤◌, Boo
 use Rattle.patr_model.specs.Structure.{Value, Node, Arcs, along}
 use Rattle.patr_marks.specs.Machine.{Pair, has_attribute, pair_with, own, matches, missing}
 use Rattle.patr_marks.specs.Sides.{sides}
-use Rattle.patr_arena.specs.Shown.{Shown}
+use Rattle.patr_arena.specs.Shown.{Shown, IsHeld}
+use Rattle.patr_scratch.specs.declared.Place.{Place}
 use Rattle.patr_scratch.specs.Contents.{Contents}
-use Rattle.patr_unify.specs.Reading.{marks_in, forward_of, added_of, pairs_at, AreHeld, PairsHeld}
+use Rattle.patr_unify.specs.Reading.{key, marks_in, forward_of, added_of, pairs_at, AreHeld, PairsHeld}
 
 -- all but the forwards, the lists of added arcs, the pairs and the number of cells in use is as it was
 pub record IsKept (w : Contents) (t : Contents) : Type 0 where
@@ -67,6 +68,15 @@ pub record IsTaken (v : Shown) (w : Contents) (t : Contents) (A : ℕ) (B : ℕ)
 pub record HasMergeRoom (v : Shown) (w : Contents) (A : ℕ) (B : ℕ) : Type 0 where
   pub pairs : length w.pairs + length (matches (both v w A) (both v w B)) ≤ w.pair_room
   pub arcs : w.arcs + length (own (sides v.structure) A) ≤ w.arc_room
+
+-- the first place can be merged into the second one
+pub record CanMerge (v : Shown) (w : Contents) (p : Place) (q : Place) : Type 0 where
+  pub from : IsHeld v p.block p.offset
+  pub to : IsHeld v q.block q.offset
+  pub apart : key v p ≢ key v q
+  pub held : AreHeld v w
+  pub pairs_held : PairsHeld v w.pairs
+  pub room : HasMergeRoom v w (key v p) (key v q)
 
 -- A is forwarded to B, and B has the arcs of both
 pub record IsMerged (v : Shown) (w : Contents) (t : Contents) (A : ℕ) (B : ℕ) : Type 0 where

@@ -1,10 +1,10 @@
 //! One place becomes another: the forward, and what the arcs of both come to.
-ghost use Rattle.std.specs.Prelude.{◌≡◌, ◌≢◌, ◌+◌, ◌<◌, ◌≤◌, ◌++◌, [], ℕ, false, length};
+ghost use Rattle.std.specs.Prelude.{◌≡◌, ◌+◌, ◌<◌, ◌≤◌, ◌++◌, [], ℕ, false, length};
 ghost use Rattle.patr_model.specs.Structure.{along};
 ghost use Rattle.patr_marks.specs.Machine.{has_attribute, matches, own};
 ghost use Rattle.patr_marks.specs.Sides.{sides};
 ghost use Rattle.patr_arena.specs.Shown.{IsHeld};
-ghost use Rattle.patr_unify.specs.Merging.{HasMergeRoom, IsFoundInOwn, IsGiven, IsMerged, IsPushed, IsTaken, both, one_pair};
+ghost use Rattle.patr_unify.specs.Merging.{CanMerge, IsFoundInOwn, IsGiven, IsMerged, IsPushed, IsTaken, both, one_pair};
 ghost use Rattle.patr_scratch.specs.Contents.{EndsOrHas, HasPlace, after, marks};
 ghost use Rattle.patr_unify.specs.Reading.{AreHeld, PairsHeld, TargetIsHeld, added_of, has_link, key, pairs_at, value_at};
 
@@ -46,12 +46,7 @@ fn give_arc<N: Nodes>(
 /// All own arcs of `from` are given to `to`. Their attributes differ, so each can only meet an arc that `to` had before:
 /// where it had no added ones, those that it gets are not looked through.
 fn give_own<N: Nodes>(nodes: &N, from: Place, to: Place, scratch: &mut Scratch)
-    requires from { IsHeld (N.shown nodes.now) from.block from.offset }
-    requires to { IsHeld (N.shown nodes.now) to.block to.offset }
-    requires apart { key (N.shown nodes.now) from ≢ key (N.shown nodes.now) to }
-    requires held { AreHeld (N.shown nodes.now) scratch.old }
-    requires pairs_held { PairsHeld (N.shown nodes.now) scratch.old.pairs }
-    requires room { HasMergeRoom (N.shown nodes.now) scratch.old (key (N.shown nodes.now) from) (key (N.shown nodes.now) to) }
+    requires { CanMerge (N.shown nodes.now) scratch.old from to }
     ensures { IsTaken (N.shown nodes.now) scratch.old scratch.new (key (N.shown nodes.now) from) (key (N.shown nodes.now) to) [] }
 {
     let extended = is_extended(nodes, scratch, to);
@@ -117,12 +112,7 @@ fn pair_added<N: Nodes>(nodes: &N, from: Place, to: Place, scratch: &mut Scratch
 
 /// `from` is forwarded to `to`, which gets the arcs of both. Targets of one attribute are pushed as pairs.
 pub(crate) fn merge<N: Nodes>(nodes: &N, from: Place, to: Place, scratch: &mut Scratch)
-    requires from { IsHeld (N.shown nodes.now) from.block from.offset }
-    requires to { IsHeld (N.shown nodes.now) to.block to.offset }
-    requires apart { key (N.shown nodes.now) from ≢ key (N.shown nodes.now) to }
-    requires held { AreHeld (N.shown nodes.now) scratch.old }
-    requires pairs_held { PairsHeld (N.shown nodes.now) scratch.old.pairs }
-    requires room { HasMergeRoom (N.shown nodes.now) scratch.old (key (N.shown nodes.now) from) (key (N.shown nodes.now) to) }
+    requires { CanMerge (N.shown nodes.now) scratch.old from to }
     ensures { IsMerged (N.shown nodes.now) scratch.old scratch.new (key (N.shown nodes.now) from) (key (N.shown nodes.now) to) }
 {
     give_own(nodes, from, to, scratch);
