@@ -74,8 +74,8 @@ pairs_held_append v [] qs h k = k
 pairs_held_append v (p ∷ ps) qs h k = (h.0, h.1, pairs_held_append v ps qs h.2 k)
 
 -- an arc is given: a later arc has its attribute
-pub given_later : (v : Shown) (w : Contents) (A B a : ℕ) (x : Value) → AreHeld v w → PairsHeld v w.pairs → has_attribute (added_of v w A) a ≡ true → IsGiven v w w A B a x
-given_later v w A B a x h p e = record {
+pub given_later : (v : Shown) (w : Contents) (later : Bool) (B a : ℕ) (x : Value) → AreHeld v w → PairsHeld v w.pairs → later ≡ true → IsGiven v w w later B a x
+given_later v w later B a x h p e = record {
   kept = kept_same w;
   forward = λ j. refl;
   pairs = sym (append-nil (pairs_at v w.pairs)) ∙ ap (λ b. pairs_at v w.pairs ++ one_pair b (along (both v w B) a) x) (sym e);
@@ -87,9 +87,9 @@ given_later v w A B a x h p e = record {
 }
 
 -- a pair is pushed
-pub given_pair : (v : Shown) (w t : Contents) (A B a : ℕ) (x other : Target) → AreHeld v w → PairsHeld v w.pairs → TargetIsHeld v x → TargetIsHeld v other → has_attribute (added_of v w A) a ≡ false
-    → Some (value_at v other) ≡ along (both v w B) a → t ≡ record w { pairs = w.pairs ++ (x, other) ∷ [] } → IsGiven v w t A B a (value_at v x)
-given_pair v w t A B a x other h p hx ho e o is = subst (λ u. IsGiven v w u A B a (value_at v x)) (sym is) (record {
+pub given_pair : (v : Shown) (w t : Contents) (later : Bool) (B a : ℕ) (x other : Target) → AreHeld v w → PairsHeld v w.pairs → TargetIsHeld v x → TargetIsHeld v other → later ≡ false
+    → Some (value_at v other) ≡ along (both v w B) a → t ≡ record w { pairs = w.pairs ++ (x, other) ∷ [] } → IsGiven v w t later B a (value_at v x)
+given_pair v w t later B a x other h p hx ho e o is = subst (λ u. IsGiven v w u later B a (value_at v x)) (sym is) (record {
   kept = record { places = refl; arc_room = refl; pair_room = refl; visits = refl; visit_room = refl; copied = λ j. refl; visit = λ j. refl };
   forward = λ j. refl;
   pairs =
@@ -103,9 +103,9 @@ given_pair v w t A B a x other h p hx ho e o is = subst (λ u. IsGiven v w u A B
 })
 
 -- an arc is added
-pub given_more : (v : Shown) (w t : Contents) (A : ℕ) (B : Place) (number a : ℕ) (x : Target) → IsShown v → AreHeld v w → PairsHeld v w.pairs → TargetIsHeld v x → IsHeld v B.block B.offset → number ≡ number_of v B.block B.offset
-    → has_attribute (added_of v w A) a ≡ false → None ≡ along (both v w (key v B)) a → t ≡ with_arc w B.side number a x → IsGiven v w t A (key v B) a (value_at v x)
-given_more v w t A B number a x s h p hx hb q e o is = subst (λ u. IsGiven v w u A (key v B) a (value_at v x)) (sym is) (
+pub given_more : (v : Shown) (w t : Contents) (later : Bool) (B : Place) (number a : ℕ) (x : Target) → IsShown v → AreHeld v w → PairsHeld v w.pairs → TargetIsHeld v x → IsHeld v B.block B.offset → number ≡ number_of v B.block B.offset
+    → later ≡ false → None ≡ along (both v w (key v B)) a → t ≡ with_arc w B.side number a x → IsGiven v w t later (key v B) a (value_at v x)
+given_more v w t later B number a x s h p hx hb q e o is = subst (λ u. IsGiven v w u later (key v B) a (value_at v x)) (sym is) (
     let j = slot B.side number in
     let n = length v.structure in
     let l : Link = record { cell = w.arcs; attribute = a; to = x } in

@@ -93,18 +93,17 @@ found_in_own v w t A B e rest h none =
     found_first v w t A B e rest h ∙ ap (λ es. along es e.attribute) (ap (λ fs. own_B ++ fs) none ∙ append-nil own_B)
 
 -- one more own arc is given
-pub taken_step : (v : Shown) (w t u : Contents) (A B : ℕ) (e : Arc) (rest : Arcs) → A ≢ B → along rest e.attribute ≡ None → IsTaken v w t A B (e ∷ rest) → IsGiven v t u A B e.attribute e.to → IsTaken v w u A B rest
-taken_step v w t u A B e rest n d h g =
+pub taken_step : (v : Shown) (w t u : Contents) (A B : ℕ) (b : Bool) (e : Arc) (rest : Arcs) → A ≢ B → along rest e.attribute ≡ None → b ≡ has_attribute (added_of v t A) e.attribute → IsTaken v w t A B (e ∷ rest) → IsGiven v t u b B e.attribute e.to → IsTaken v w u A B rest
+taken_step v w t u A B b e rest n d hb h g =
     let later = added_of v w A in
     let bs = both v w B in
     let own_B = own (sides v.structure) B in
     let a = e.attribute in
-    let same : added_of v t A ≡ later = h.others A n in
     let l = has_attribute later a in
     let o = along bs a in
     let d' : has_attribute rest a ≡ false = none_has rest a d in
     let lr : has_attribute (rest ++ later) a ≡ l = has_append rest later a d' in
-    let has : has_attribute (added_of v t A) a ≡ l = ap (λ es. has_attribute es a) same in
+    let has : b ≡ l = hb ∙ ap (λ es. has_attribute es a) (h.others A n) in
     let finds : along (both v t B) a ≡ o = found_first v w t A B e rest h in
     let added : added_of v u B ≡ one_more l o a e.to (added_of v t B) =
     g.added ∙ (ap (λ b. one_more b (along (both v t B) a) a e.to (added_of v t B)) has ∙ ap (λ q. one_more l q a e.to (added_of v t B)) finds) in
@@ -126,15 +125,15 @@ taken_step v w t u A B e rest n d h g =
     }
 
 -- there is room for the pair of the next arc
-pub pair_fits : (v : Shown) (w t : Contents) (A B : ℕ) (e : Arc) (rest : Arcs) → A ≢ B → along rest e.attribute ≡ None → IsTaken v w t A B (e ∷ rest) → HasMergeRoom v w A B
-    → length t.pairs + length (one_pair (has_attribute (added_of v t A) e.attribute) (along (both v t B) e.attribute) e.to) ≤ t.pair_room
-pair_fits v w t A B e rest n d h r =
+pub pair_fits : (v : Shown) (w t : Contents) (A B : ℕ) (b : Bool) (e : Arc) (rest : Arcs) → A ≢ B → along rest e.attribute ≡ None → b ≡ has_attribute (added_of v t A) e.attribute → IsTaken v w t A B (e ∷ rest) → HasMergeRoom v w A B
+    → length t.pairs + length (one_pair b (along (both v t B) e.attribute) e.to) ≤ t.pair_room
+pair_fits v w t A B b e rest n d hb h r =
     let later = added_of v w A in
     let bs = both v w B in
     let a = e.attribute in
     let l = has_attribute later a in
     let o = along bs a in
-    let has : has_attribute (added_of v t A) a ≡ l = ap (λ es. has_attribute es a) (h.others A n) in
+    let has : b ≡ l = hb ∙ ap (λ es. has_attribute es a) (h.others A n) in
     let finds : along (both v t B) a ≡ o = found_first v w t A B e rest h in
     let all : pairs_at v t.pairs ++ (one_pair l o e.to ++ matches (rest ++ later) bs) ≡ pairs_at v w.pairs ++ matches (both v w A) bs =
     ap (λ ps. pairs_at v t.pairs ++ ps) (sym (matches_step e rest later bs (none_has rest a d))) ∙ h.pairs in

@@ -36,12 +36,12 @@ one_more true o a x es = es
 one_more false None a x es = record { attribute = a; to = x } ∷ es
 one_more false (Some y) a x es = es
 
--- the place with the key A gave an arc to B
-pub record IsGiven (v : Shown) (w : Contents) (t : Contents) (A : ℕ) (B : ℕ) (a : ℕ) (x : Value) : Type 0 where
+-- an arc was given to the place with the key B, unless a later one has its attribute
+pub record IsGiven (v : Shown) (w : Contents) (t : Contents) (later : Bool) (B : ℕ) (a : ℕ) (x : Value) : Type 0 where
   pub kept : IsKept w t
   pub forward : (j : ℕ) → (marks_in t j).forward ≡ (marks_in w j).forward
-  pub pairs : pairs_at v t.pairs ≡ pairs_at v w.pairs ++ one_pair (has_attribute (added_of v w A) a) (along (both v w B) a) x
-  pub added : added_of v t B ≡ one_more (has_attribute (added_of v w A) a) (along (both v w B) a) a x (added_of v w B)
+  pub pairs : pairs_at v t.pairs ≡ pairs_at v w.pairs ++ one_pair later (along (both v w B) a) x
+  pub added : added_of v t B ≡ one_more later (along (both v w B) a) a x (added_of v w B)
   pub others : (k : ℕ) → k ≢ B → added_of v t k ≡ added_of v w k
   pub arcs : t.arcs ≤ w.arcs + 1
   pub held : AreHeld v t

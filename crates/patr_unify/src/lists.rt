@@ -1,7 +1,7 @@
 //! Reading the arcs of a place: its own, and then the added ones.
 ghost use Rattle.std.specs.Prelude.{◌≡◌, ℕ, ◌++◌, [], length, false};
 ghost use Rattle.patr_model.specs.Structure.{along};
-ghost use Rattle.patr_marks.specs.Machine.{own};
+ghost use Rattle.patr_marks.specs.Machine.{has_attribute, own};
 ghost use Rattle.patr_marks.specs.Sides.{sides};
 ghost use Rattle.patr_arena.specs.Shown.{IsHeld, RefIsHeld, ref_of};
 ghost use Rattle.patr_scratch.specs.Contents.{EndsOrHas, HasPlace, after, marks};
@@ -129,11 +129,24 @@ pub(crate) fn find<N: Nodes>(
     }
 }
 
-/// Whether the place has an added arc with the attribute.
-pub(crate) fn has_added(scratch: &Scratch, side: Side, number: u64, attribute: u32) -> bool
-    requires { HasPlace scratch.now side number }
-    ensures { result ≡ has_link (marks scratch.now side number).added attribute }
+/// Whether the place has an added arc with the attribute. They are looked through only where the place is said to be
+/// extended.
+pub(crate) fn has_added<N: Nodes>(
+    nodes: &N,
+    scratch: &Scratch,
+    place: Place,
+    attribute: u32,
+    extended: bool,
+) -> bool
+    requires place { IsHeld (N.shown nodes.now) place.block place.offset }
+    requires held { AreHeld (N.shown nodes.now) scratch.now }
+    requires extended { extended ≡ false → added_of (N.shown nodes.now) scratch.now (key (N.shown nodes.now) place) ≡ [] }
+    ensures { result ≡ has_attribute (added_of (N.shown nodes.now) scratch.now (key (N.shown nodes.now) place)) attribute }
 {
-    let first = scratch.first_arc(side, number);
-    listed(scratch, side, number, first, attribute)
+    if !extended {
+        return false;
+    }
+    let number = number(nodes, place);
+    let first = scratch.first_arc(place.side, number);
+    listed(scratch, place.side, number, first, attribute)
 }

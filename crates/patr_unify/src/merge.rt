@@ -1,7 +1,7 @@
 //! One place becomes another: the forward, and what the arcs of both come to.
 ghost use Rattle.std.specs.Prelude.{◌≡◌, ◌+◌, ◌<◌, ◌≤◌, ◌++◌, [], ℕ, false, length};
 ghost use Rattle.patr_model.specs.Structure.{along};
-ghost use Rattle.patr_marks.specs.Machine.{has_attribute, matches, own};
+ghost use Rattle.patr_marks.specs.Machine.{matches, own};
 ghost use Rattle.patr_marks.specs.Sides.{sides};
 ghost use Rattle.patr_arena.specs.Shown.{IsHeld};
 ghost use Rattle.patr_unify.specs.Merging.{CanMerge, IsFoundInOwn, IsGiven, IsMerged, IsPushed, IsTaken, both, one_pair};
@@ -13,28 +13,27 @@ use crate::lists::{find, has_added, is_extended, listed, own_target};
 use patr_arena::Nodes;
 use patr_scratch::{Added, Place, Scratch, Side, Target};
 
-/// An own arc of `from` is given to `to`. Where `to` has the attribute, both targets are pushed as a pair. An
-/// attribute of a later arc of `from` is left to that arc. The added arcs of `to` are looked through if it is `extended`.
+/// An arc is given to `to`, unless a later one has its attribute. Where `to` has the attribute, both targets are pushed
+/// as a pair. The added arcs of `to` are looked through if it is `extended`.
 fn give_arc<N: Nodes>(
     nodes: &N,
-    from: Place,
     to: Place,
     attribute: u32,
     target: Target,
+    later: bool,
     extended: bool,
     scratch: &mut Scratch,
 )
-    requires from { IsHeld (N.shown nodes.now) from.block from.offset }
     requires to { IsHeld (N.shown nodes.now) to.block to.offset }
     requires target { TargetIsHeld (N.shown nodes.now) target }
     requires held { AreHeld (N.shown nodes.now) scratch.old }
     requires pairs_held { PairsHeld (N.shown nodes.now) scratch.old.pairs }
-    requires pair_room { length scratch.old.pairs + length (one_pair (has_attribute (added_of (N.shown nodes.now) scratch.old (key (N.shown nodes.now) from)) attribute) (along (both (N.shown nodes.now) scratch.old (key (N.shown nodes.now) to)) attribute) (value_at (N.shown nodes.now) target)) ≤ scratch.old.pair_room }
+    requires pair_room { length scratch.old.pairs + length (one_pair later (along (both (N.shown nodes.now) scratch.old (key (N.shown nodes.now) to)) attribute) (value_at (N.shown nodes.now) target)) ≤ scratch.old.pair_room }
     requires arc_room { scratch.old.arcs < scratch.old.arc_room }
     requires extended { extended ≡ false → IsFoundInOwn (N.shown nodes.now) scratch.old (key (N.shown nodes.now) to) attribute }
-    ensures { IsGiven (N.shown nodes.now) scratch.old scratch.new (key (N.shown nodes.now) from) (key (N.shown nodes.now) to) attribute (value_at (N.shown nodes.now) target) }
+    ensures { IsGiven (N.shown nodes.now) scratch.old scratch.new later (key (N.shown nodes.now) to) attribute (value_at (N.shown nodes.now) target) }
 {
-    if has_added(scratch, from.side, number(nodes, from), attribute) {
+    if later {
         return;
     }
     match find(nodes, scratch, to, attribute, extended) {
@@ -49,19 +48,14 @@ fn give_own<N: Nodes>(nodes: &N, from: Place, to: Place, scratch: &mut Scratch)
     requires { CanMerge (N.shown nodes.now) scratch.old from to }
     ensures { IsTaken (N.shown nodes.now) scratch.old scratch.new (key (N.shown nodes.now) from) (key (N.shown nodes.now) to) [] }
 {
-    let extended = is_extended(nodes, scratch, to);
+    let from_extended = is_extended(nodes, scratch, from);
+    let to_extended = is_extended(nodes, scratch, to);
     let at = address(from);
     for feature in nodes.arcs(at) {
+        let attribute = feature.attribute.0;
+        let later = has_added(nodes, scratch, from, attribute, from_extended);
         let target = own_target(nodes, from, feature.to);
-        give_arc(
-            nodes,
-            from,
-            to,
-            feature.attribute.0,
-            target,
-            extended,
-            scratch,
-        );
+        give_arc(nodes, to, attribute, target, later, to_extended, scratch);
     }
 }
 
