@@ -1,5 +1,5 @@
 //! Reading the arcs of a place: its own, and then the added ones.
-ghost use Rattle.std.specs.Prelude.{◌≡◌, ℕ, ◌++◌, [], length, false};
+ghost use Rattle.std.specs.Prelude.{◌≡◌, [], length, false};
 ghost use Rattle.patr_model.specs.Structure.{along};
 ghost use Rattle.patr_marks.specs.Machine.{has_attribute, own};
 ghost use Rattle.patr_marks.specs.Sides.{sides};

@@ -1,12 +1,11 @@
 //! One place becomes another: the forward, and what the arcs of both come to.
-ghost use Rattle.std.specs.Prelude.{◌≡◌, ◌+◌, ◌<◌, ◌≤◌, ◌++◌, [], ℕ, false, length};
+ghost use Rattle.std.specs.Prelude.{◌≡◌, ◌+◌, ◌<◌, ◌≤◌, [], false, length};
 ghost use Rattle.patr_model.specs.Structure.{along};
-ghost use Rattle.patr_marks.specs.Machine.{matches, own};
-ghost use Rattle.patr_marks.specs.Sides.{sides};
+ghost use Rattle.patr_marks.specs.Machine.{matches};
 ghost use Rattle.patr_arena.specs.Shown.{IsHeld};
 ghost use Rattle.patr_unify.specs.Merging.{CanMerge, IsFoundInOwn, IsGiven, IsMerged, IsPushed, IsTaken, both, one_pair};
 ghost use Rattle.patr_scratch.specs.Contents.{EndsOrHas, HasPlace, after, marks};
-ghost use Rattle.patr_unify.specs.Reading.{AreHeld, PairsHeld, TargetIsHeld, added_of, has_link, key, pairs_at, value_at};
+ghost use Rattle.patr_unify.specs.Reading.{AreHeld, PairsHeld, TargetIsHeld, added_of, has_link, key, value_at};
 
 use crate::ends::{address, number};
 use crate::lists::{find, has_added, is_extended, listed, own_target};
