@@ -1,6 +1,6 @@
 //! A cell of marks for each place, the two sides' places taking turns; a mark stands only in the generation that set it.
-ghost use Rattle.std.specs.Prelude.{◌≡◌, ◌<◌, ◌≤◌, ◌-◌, ◌++◌, [], All, IfOk, Some, length, set};
-ghost use Rattle.patr_scratch.specs.Marks.{mark_at, no_marks, blank};
+ghost use Rattle.std.specs.Prelude.{◌≡◌, ◌<◌, ◌≤◌, ◌-◌, ◌++◌, [], IfOk, Some, length, set};
+ghost use Rattle.patr_scratch.specs.Marks.{mark_at, no_marks};
 ghost use Rattle.patr_scratch.specs.Stamps.{mark_of};
 ghost use Rattle.patr_scratch.specs.Contents.{slot};
 
@@ -138,7 +138,8 @@ impl Table {
     /// Sets the ends of a list of added arcs in this generation, and keeps what else it set there.
     pub(crate) fn set_added(&mut self, slot: usize, added: Option<Ends>)
         requires { slot < length self.old }
-        ensures { self.new ≡ set self.old slot (record (mark_at self.old slot) { added = added }) }
+        ensures { self.new ≡ set self.old slot
+            (record (mark_at self.old slot) { added = added }) }
     {
         let cell = &mut self.cells[slot];
         cell.renew(self.stamp);
@@ -148,7 +149,8 @@ impl Table {
     /// Sets a forward in this generation, and keeps what else it set there.
     pub(crate) fn set_forward(&mut self, slot: usize, to: Target)
         requires { slot < length self.old }
-        ensures { self.new ≡ set self.old slot (record (mark_at self.old slot) { forward = Some to }) }
+        ensures { self.new ≡ set self.old slot
+            (record (mark_at self.old slot) { forward = Some to }) }
     {
         let cell = &mut self.cells[slot];
         cell.renew(self.stamp);
@@ -158,7 +160,8 @@ impl Table {
     /// Sets a copy in this generation, and keeps what else it set there.
     pub(crate) fn set_copied(&mut self, slot: usize, made: Copied)
         requires { slot < length self.old }
-        ensures { self.new ≡ set self.old slot (record (mark_at self.old slot) { copied = Some made }) }
+        ensures { self.new ≡ set self.old slot
+            (record (mark_at self.old slot) { copied = Some made }) }
     {
         let cell = &mut self.cells[slot];
         cell.renew(self.stamp);
@@ -168,7 +171,8 @@ impl Table {
     /// Sets a visit in this generation, and keeps what else it set there.
     pub(crate) fn set_visit(&mut self, slot: usize, state: Visit)
         requires { slot < length self.old }
-        ensures { self.new ≡ set self.old slot (record (mark_at self.old slot) { visit = state }) }
+        ensures { self.new ≡ set self.old slot
+            (record (mark_at self.old slot) { visit = state }) }
     {
         let cell = &mut self.cells[slot];
         cell.renew(self.stamp);

@@ -95,7 +95,8 @@ pub(crate) fn find_own<N: Nodes>(nodes: &N, place: Place, attribute: u32) -> Opt
 pub(crate) fn is_extended<N: Nodes>(nodes: &N, scratch: &Scratch, place: Place) -> bool
     requires place { IsHeld (N.shown nodes.now) place.block place.offset }
     requires held { AreHeld (N.shown nodes.now) scratch.now }
-    ensures { result ≡ false → added_of (N.shown nodes.now) scratch.now (key (N.shown nodes.now) place) ≡ [] }
+    ensures { result ≡ false →
+        added_of (N.shown nodes.now) scratch.now (key (N.shown nodes.now) place) ≡ [] }
 {
     match scratch.first_arc(place.side, number(nodes, place)) {
         Some(_) => true,
@@ -114,8 +115,10 @@ pub(crate) fn find<N: Nodes>(
 ) -> Option<Target>
     requires place { IsHeld (N.shown nodes.now) place.block place.offset }
     requires held { AreHeld (N.shown nodes.now) scratch.now }
-    requires extended { extended ≡ false → IsFoundInOwn (N.shown nodes.now) scratch.now (key (N.shown nodes.now) place) attribute }
-    ensures same { option_at (N.shown nodes.now) result ≡ along (both (N.shown nodes.now) scratch.now (key (N.shown nodes.now) place)) attribute }
+    requires extended { extended ≡ false →
+        IsFoundInOwn (N.shown nodes.now) scratch.now (key (N.shown nodes.now) place) attribute }
+    ensures same { option_at (N.shown nodes.now) result
+        ≡ along (both (N.shown nodes.now) scratch.now (key (N.shown nodes.now) place)) attribute }
     ensures held { OptionIsHeld (N.shown nodes.now) result }
 {
     match find_own(nodes, place, attribute) {
@@ -140,8 +143,10 @@ pub(crate) fn has_added<N: Nodes>(
 ) -> bool
     requires place { IsHeld (N.shown nodes.now) place.block place.offset }
     requires held { AreHeld (N.shown nodes.now) scratch.now }
-    requires extended { extended ≡ false → added_of (N.shown nodes.now) scratch.now (key (N.shown nodes.now) place) ≡ [] }
-    ensures { result ≡ has_attribute (added_of (N.shown nodes.now) scratch.now (key (N.shown nodes.now) place)) attribute }
+    requires extended { extended ≡ false →
+        added_of (N.shown nodes.now) scratch.now (key (N.shown nodes.now) place) ≡ [] }
+    ensures { result ≡ has_attribute
+        (added_of (N.shown nodes.now) scratch.now (key (N.shown nodes.now) place)) attribute }
 {
     if !extended {
         return false;

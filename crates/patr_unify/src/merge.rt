@@ -27,10 +27,16 @@ fn give_arc<N: Nodes>(
     requires target { TargetIsHeld (N.shown nodes.now) target }
     requires held { AreHeld (N.shown nodes.now) scratch.old }
     requires pairs_held { PairsHeld (N.shown nodes.now) scratch.old.pairs }
-    requires pair_room { length scratch.old.pairs + length (one_pair later (along (both (N.shown nodes.now) scratch.old (key (N.shown nodes.now) to)) attribute) (value_at (N.shown nodes.now) target)) ≤ scratch.old.pair_room }
+    requires pair_room { length scratch.old.pairs
+        + length (one_pair later
+        (along (both (N.shown nodes.now) scratch.old (key (N.shown nodes.now) to)) attribute)
+        (value_at (N.shown nodes.now) target))
+        ≤ scratch.old.pair_room }
     requires arc_room { scratch.old.arcs < scratch.old.arc_room }
-    requires extended { extended ≡ false → IsFoundInOwn (N.shown nodes.now) scratch.old (key (N.shown nodes.now) to) attribute }
-    ensures { IsGiven (N.shown nodes.now) scratch.old scratch.new later (key (N.shown nodes.now) to) attribute (value_at (N.shown nodes.now) target) }
+    requires extended { extended ≡ false →
+        IsFoundInOwn (N.shown nodes.now) scratch.old (key (N.shown nodes.now) to) attribute }
+    ensures { IsGiven (N.shown nodes.now) scratch.old scratch.new later
+        (key (N.shown nodes.now) to) attribute (value_at (N.shown nodes.now) target) }
 {
     if later {
         return;
@@ -45,7 +51,8 @@ fn give_arc<N: Nodes>(
 /// where it had no added ones, those that it gets are not looked through.
 fn give_own<N: Nodes>(nodes: &N, from: Place, to: Place, scratch: &mut Scratch)
     requires { CanMerge (N.shown nodes.now) scratch.old from to }
-    ensures { IsTaken (N.shown nodes.now) scratch.old scratch.new (key (N.shown nodes.now) from) (key (N.shown nodes.now) to) [] }
+    ensures { IsTaken (N.shown nodes.now) scratch.old scratch.new
+        (key (N.shown nodes.now) from) (key (N.shown nodes.now) to) [] }
 {
     let from_extended = is_extended(nodes, scratch, from);
     let to_extended = is_extended(nodes, scratch, to);
@@ -106,7 +113,8 @@ fn pair_added<N: Nodes>(nodes: &N, from: Place, to: Place, scratch: &mut Scratch
 /// `from` is forwarded to `to`, which gets the arcs of both. Targets of one attribute are pushed as pairs.
 pub(crate) fn merge<N: Nodes>(nodes: &N, from: Place, to: Place, scratch: &mut Scratch)
     requires { CanMerge (N.shown nodes.now) scratch.old from to }
-    ensures { IsMerged (N.shown nodes.now) scratch.old scratch.new (key (N.shown nodes.now) from) (key (N.shown nodes.now) to) }
+    ensures { IsMerged (N.shown nodes.now) scratch.old scratch.new
+        (key (N.shown nodes.now) from) (key (N.shown nodes.now) to) }
 {
     give_own(nodes, from, to, scratch);
     pair_added(nodes, from, to, scratch);
