@@ -122,10 +122,16 @@ pub record IsSkip (s : State) (t : State) (rest : List Pair) (p : Pair) : Type 0
   pub pending : t.pending ≡ rest
   pub others : (k : ℕ) → t.added k ≡ s.added k
 
--- no structure takes the last pair: two atoms, or an atom and a node with an arc
+-- arcs of both lists have one attribute, and lead to unequal atoms
+abbrev pub HaveTwoAtoms : Arcs → Arcs → Type 0
+HaveTwoAtoms es fs = (a c d : ℕ) × Has es a (Atom c) × Has fs a (Atom d) × (c ≢ d)
+
+-- no structure takes the last pair: two atoms, an atom and a node with an arc, or two nodes with own arcs to unequal atoms
 pub record IsClash (D : Structure) (s : State) (rest : List Pair) (p : Pair) : Type 0 where
   pub popped : s.pending ≡ rest ++ (p ∷ [])
-  pub clash : ((c d : ℕ) × Ends s p (Atom c) (Atom d) × (c ≢ d)) ⊎ ((A c a : ℕ) × (x : Value) × Ends s p (Node A) (Atom c) × Has (arcs_at D s A) a x)
+  pub clash : ((c d : ℕ) × Ends s p (Atom c) (Atom d) × (c ≢ d))
+      ⊎ (((A c a : ℕ) × (x : Value) × Ends s p (Node A) (Atom c) × Has (arcs_at D s A) a x)
+      ⊎ ((A B : ℕ) × Ends s p (Node A) (Node B) × HaveTwoAtoms (own D A) (own D B)))
 
 -- whoever agrees with the forwards and the pending pairs has one value for both
 abbrev pub Tied : State → Value → Value → Type 0

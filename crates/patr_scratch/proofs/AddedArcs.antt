@@ -140,7 +140,7 @@ with_arc_view ms arcs pairs visits now s n new i e h f =
 -- what the code of `add_arc` comes to
 pub arc_added : (ms : List Mark) (arcs : WithRoom ArcCell) (k n : ℕ) (m : Mark) (next : Option ℕ) (last cell attribute : ℕ) (to : Target) (ms' : List Mark) (arcs' : WithRoom ArcCell) (s : Side) (number : ℕ)
     → k ≡ slot s number → m ≡ mark_at ms k → cell ≡ length arcs.list → next ≡ first_of m.added → last ≡ last_or m.added cell
-    → arcs' ≡ record { list = arcs.list ++ record { attribute = attribute; to = to; next = next } ∷ []; room = arcs.room } → ms' ≡ set ms k (record m { added = Some (record { first = cell; last = last }) })
+    → arcs' ≡ record { list = arcs.list ++ record { attribute = attribute; to = to; next = next } ∷ []; room = arcs.room } → ms' ≡ set ms k (record (mark_at ms k) { added = Some (record { first = cell; last = last }) })
     → (ms' ≡ set ms (slot s number) (front_mark ms (slot s number) (length arcs.list)))
     × (arcs' ≡ record { list = arcs.list ++ record { attribute = attribute; to = to; next = first_of (mark_at ms (slot s number)).added } ∷ []; room = arcs.room })
 arc_added ms arcs k n m next last cell attribute to ms' arcs' s number q h c f l a w =

@@ -204,15 +204,15 @@ last_below ms cells k m a i h e =
     list_below cells (first_of (mark_at ms k).added) (i.lists k) a.last (i.each k) (last_in (i.lists k) a.last l)
 
 -- what the code of `move_arcs` comes to
-pub arcs_moved : (ms : List Mark) (arcs : WithRoom ArcCell) (A B : ℕ) (a : Ends) (mA mB : Mark) (next : Option ℕ) (last : ℕ) (joint : ArcCell) (arcs' : WithRoom ArcCell) (one two : List Mark) (s t : Side) (m n : ℕ)
-    → A ≡ slot s m → B ≡ slot t n → mA ≡ mark_at ms A → mB ≡ mark_at ms B → next ≡ first_of mB.added → last ≡ last_or mB.added a.last → a.last < length arcs.list → joint ≡ get_or arcs.list a.last joint
+pub arcs_moved : (ms : List Mark) (arcs : WithRoom ArcCell) (A B : ℕ) (a : Ends) (mB : Mark) (next : Option ℕ) (last : ℕ) (joint : ArcCell) (arcs' : WithRoom ArcCell) (one two : List Mark) (s t : Side) (m n : ℕ)
+    → A ≡ slot s m → B ≡ slot t n → mB ≡ mark_at ms B → next ≡ first_of mB.added → last ≡ last_or mB.added a.last → a.last < length arcs.list → joint ≡ get_or arcs.list a.last joint
     → arcs' ≡ record { list = set arcs.list a.last (record joint { next = next }); room = arcs.room }
-    → one ≡ set ms B (record mB { added = Some (record { first = a.first; last = last }) }) → two ≡ set one A (record mA { added = None })
+    → slot s m ≢ slot t n → one ≡ set ms B (record (mark_at ms B) { added = Some (record { first = a.first; last = last }) }) → two ≡ set one A (record (mark_at one A) { added = None })
     → (two ≡ moved_marks ms (slot s m) (slot t n) a) × (arcs' ≡ record { list = relink arcs.list a.last (first_of (mark_at ms (slot t n)).added); room = arcs.room })
-arcs_moved ms arcs A B a mA mB next last joint arcs' one two s t m n qA qB hA hB f l b g w x y =
-    let hA' : mA ≡ mark_at ms (slot s m) = hA ∙ ap (mark_at ms) qA in
+arcs_moved ms arcs A B a mB next last joint arcs' one two s t m n qA qB hB f l b g w ne x y =
     let hB' : mB ≡ mark_at ms (slot t n) = hB ∙ ap (mark_at ms) qB in
     let f' : next ≡ first_of (mark_at ms (slot t n)).added = f ∙ ap (λ (u : Mark). first_of u.added) hB' in
     let l' : last ≡ last_or (mark_at ms (slot t n)).added a.last = l ∙ ap (λ (u : Mark). last_or u.added a.last) hB' in
+    let hA' : mark_at one (slot s m) ≡ mark_at ms (slot s m) = ap (λ us. mark_at us (slot s m)) x ∙ get_or-set_other ms B (slot s m) (record (mark_at ms B) { added = Some (record { first = a.first; last = last }) }) blank (λ e. ne (e ∙ qB)) in
     let j' : joint ≡ cell_at arcs.list a.last = g ∙ get_or_any arcs.list a.last joint no_cell b in
     (cc, cc)

@@ -1,10 +1,10 @@
 -- Marks of the present generation.
-use Rattle.std.proofs.Common.{◌≡◌, ◌≢◌, ℕ, zero, suc, ◌+◌, ◌-◌, ◌^◌, ◌<◌, ◌≤◌, Option, Some, None, cond, List, [], ◌∷◌, ◌++◌, length, length-append, take, set, replicate, refl, sym, ap, ◌∙◌, arith, ne_eqb, eq-eqb}
+use Rattle.std.proofs.Common.{◌≡◌, ◌≢◌, ℕ, zero, suc, ◌+◌, ◌-◌, ◌^◌, ◌<◌, ◌≤◌, Option, Some, None, cond, List, [], ◌∷◌, ◌++◌, length, length-append, take, set, get_or, replicate, refl, sym, ap, ◌∙◌, arith, ne_eqb, eq-eqb}
 use Rattle.std.specs.List.{All}
 use Rattle.std.specs.Option.{SomeIff, unwrap_or}
 use Rattle.patr_scratch.specs.declared.table.Cell.{Cell}
 use Rattle.patr_scratch.specs.declared.table.Mark.{Mark}
-use Rattle.patr_scratch.specs.Marks.{blank, no_marks}
+use Rattle.patr_scratch.specs.Marks.{blank, mark_at, no_marks}
 use Rattle.std.proofs.lemmas.List.{map-append, take_all, map-set, length-replicate}
 use Rattle.patr_scratch.specs.Stamps.{mark_of, marks_of}
 use Rattle.std.proofs.lemmas.List.Elements.{All-head, All-tail, All-weaker}
@@ -18,12 +18,10 @@ later_none stamp (c ∷ cs) h =
     ap (λ b. cond b c.mark blank ∷ marks_of stamp cs) (ne_eqb c.stamp stamp n)
     ∙ ap (λ ms. blank ∷ ms) (later_none stamp cs (All-tail (λ c. c.stamp < stamp) c cs h))
 
--- a cell of the present generation is written
-pub marks_set : (stamp : ℕ) (cells : List Cell) (ms : List Mark) (k : ℕ) (new : Cell) (m : Mark) → marks_of stamp cells ≡ ms → new.stamp ≡ stamp
-    → new.mark ≡ m → marks_of stamp (set cells k new) ≡ set ms k m
-marks_set stamp cells ms k new m e s h =
-    map-set (mark_of stamp) cells k new
-    ∙ (ap (λ u. set (marks_of stamp cells) k u) (ap (λ b. cond b new.mark blank) (eq-eqb new.stamp stamp s) ∙ h) ∙ ap (λ us. set us k m) e)
+mark_read : (stamp : ℕ) (cells : List Cell) (k : ℕ) (c : Cell) → k < length cells → c ≡ get_or cells k c → mark_of stamp c ≡ mark_at (marks_of stamp cells) k
+mark_read stamp [] k c l e = absurd (omega (arith, l))
+mark_read stamp (d ∷ cs) zero c l e = ap (mark_of stamp) e
+mark_read stamp (d ∷ cs) (suc k) c l e = mark_read stamp cs k c (omega (arith, l)) e
 
 length_marks : (stamp : ℕ) (cells : List Cell) → length (marks_of stamp cells) ≡ length cells
 length_marks stamp [] = refl
@@ -31,6 +29,15 @@ length_marks stamp (c ∷ cs) = ap suc (length_marks stamp cs)
 
 pub marks_length : (stamp : ℕ) (cells : List Cell) (ms : List Mark) → marks_of stamp cells ≡ ms → length cells ≡ length ms
 marks_length stamp cells ms e = sym (length_marks stamp cells) ∙ ap length e
+
+-- a cell becomes one of the present generation, and its mark is changed
+pub marks_changed : (stamp : ℕ) (cells : List Cell) (ms : List Mark) (k : ℕ) (old new : Cell) (f : Mark → Mark) → marks_of stamp cells ≡ ms → k < length ms → old ≡ get_or cells k old → new ≡ record { stamp = stamp; mark = mark_of stamp old }
+    → marks_of stamp (set cells k (record { stamp = new.stamp; mark = f new.mark })) ≡ set ms k (f (mark_at ms k))
+marks_changed stamp cells ms k old new f e l q r =
+    let read = mark_read stamp cells k old (omega (arith, l, marks_length stamp cells ms e)) q in
+    map-set (mark_of stamp) cells k (record { stamp = new.stamp; mark = f new.mark })
+    ∙ (ap (set (marks_of stamp cells) k) (ap (λ b. cond b (f new.mark) blank) (eq-eqb new.stamp stamp (ap (λ (c : Cell). c.stamp) r)) ∙ ap (λ (c : Cell). f c.mark) r ∙ ap f read)
+    ∙ ap (λ us. set us k (f (mark_at us k))) e)
 
 -- a later generation
 pub marks_later : (stamp new : ℕ) (cells : List Cell) (ms : List Mark) (cells' : List Cell) → marks_of stamp cells ≡ ms → length cells' ≡ length cells → All (λ c. c.stamp < new) cells' → marks_of new cells' ≡ no_marks (length ms)

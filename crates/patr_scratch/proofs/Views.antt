@@ -71,13 +71,15 @@ place_is ms arcs pairs visits now s n k m e q h =
     get_or_at : List PlaceMarks → ℕ → PlaceMarks
     get_or_at ps j = get_or ps j unmarked
 
--- a mark is written
-pub set_view : (ms : List Mark) (arcs : WithRoom ArcCell) (pairs : WithRoom (Target × Target)) (visits : WithRoom Place) (now : Contents) (s : Side) (n k : ℕ) (m : Mark) (ms' : List Mark) (p : PlaceMarks)
-    → contents_of ms arcs pairs visits ≡ now → k ≡ slot s n → ms' ≡ set ms k m → place_of arcs.list m ≡ p → contents_of ms' arcs pairs visits ≡ put now s n p
-set_view ms arcs pairs visits now s n k m ms' p e q w h =
+-- a mark is changed
+pub mark_changed : (ms : List Mark) (arcs : WithRoom ArcCell) (pairs : WithRoom (Target × Target)) (visits : WithRoom Place) (now : Contents) (s : Side) (n k : ℕ) (ms' : List Mark) (f : Mark → Mark) (g : PlaceMarks → PlaceMarks)
+    → contents_of ms arcs pairs visits ≡ now → k ≡ slot s n → ms' ≡ set ms k (f (mark_at ms k)) → ((m : Mark) → place_of arcs.list (f m) ≡ g (place_of arcs.list m)) → contents_of ms' arcs pairs visits ≡ put now s n (g (marks now s n))
+mark_changed ms arcs pairs visits now s n k ms' f g e q w h =
+    let p : PlaceMarks = g (marks now s n) in
+    let is : place_of arcs.list (f (mark_at ms k)) ≡ p = h (mark_at ms k) ∙ ap g (place_is ms arcs pairs visits now s n k (mark_at ms k) e q refl) in
     ap (λ us. contents_of us arcs pairs visits) w
-    ∙ (ap (λ ps. record (contents_of ms arcs pairs visits) { places = ps }) (map-set (place_of arcs.list) ms k m)
-    ∙ (ap (λ u. record (contents_of ms arcs pairs visits) { places = set (map (place_of arcs.list) ms) k u }) h
+    ∙ (ap (λ ps. record (contents_of ms arcs pairs visits) { places = ps }) (map-set (place_of arcs.list) ms k (f (mark_at ms k)))
+    ∙ (ap (λ u. record (contents_of ms arcs pairs visits) { places = set (map (place_of arcs.list) ms) k u }) is
     ∙ (ap (λ j. record (contents_of ms arcs pairs visits) { places = set (map (place_of arcs.list) ms) j p }) q
     ∙ ap (λ (v : Contents). put v s n p) e)))
 

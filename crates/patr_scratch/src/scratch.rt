@@ -5,7 +5,7 @@ ghost use Rattle.patr_scratch.specs.Contents.{HasPlace, HasCell, HasRoom, IsArcO
 
 use crate::arc::ArcCell;
 use crate::stack::Stack;
-use crate::table::{Ends, Mark, Table};
+use crate::table::{Ends, Table};
 use crate::{Added, Copied, Memory, Place, Side, Target, Visit};
 use std::alloc::{AllocError, Global};
 use std::marker::Model;
@@ -22,6 +22,7 @@ pub struct Scratch {
     arcs: Stack<ArcCell>,
     pairs: Stack<(Target, Target)>,
     visits: Stack<Place>,
+    goes_first: Side,
 }
 
 impl Model for Scratch {
@@ -91,7 +92,21 @@ impl Scratch {
             arcs: Stack::new(alloc),
             pairs: Stack::new(alloc),
             visits: Stack::new(alloc),
+            goes_first: Side::Right,
         }
+    }
+
+    /// The side whose place is forwarded where either of two places may be: what `set_goes_first` set last, and the
+    /// right side at first. No mark depends on it.
+    pub fn goes_first(&self) -> Side {
+        self.goes_first
+    }
+
+    /// Says which side's place is forwarded where either of two places may be. It stays so when a generation begins.
+    pub fn set_goes_first(&mut self, side: Side)
+        ensures { self.new ≡ self.old }
+    {
+        self.goes_first = side;
     }
 
     /// Takes room for places numbered below `table` on each side, for `nodes` visits, `arcs` added arcs and
@@ -138,14 +153,7 @@ impl Scratch {
         ensures { self.new ≡ put self.old side number (record (marks self.old side number) { forward = Some to }) }
     {
         let slot = self.table.slot(side, number);
-        let mark = self.table.get(slot);
-        self.table.set(
-            slot,
-            Mark {
-                forward: Some(to),
-                ..mark
-            },
-        );
+        self.table.set_forward(slot, to);
     }
 
     /// The cell of the place's first added arc. `None` exactly where it has none.
@@ -186,13 +194,7 @@ impl Scratch {
             to,
             next,
         });
-        self.table.set(
-            slot,
-            Mark {
-                added: Some(Ends { first: cell, last }),
-                ..mark
-            },
-        );
+        self.table.set_added(slot, Some(Ends { first: cell, last }));
     }
 
     /// Puts the first place's added arcs before those of the second. The first place has none then. It takes no room.
@@ -215,23 +217,9 @@ impl Scratch {
         let joint = self.arcs.get(moved.last as usize);
         self.arcs
             .set(moved.last as usize, ArcCell { next, ..joint });
-        self.table.set(
-            to_slot,
-            Mark {
-                added: Some(Ends {
-                    first: moved.first,
-                    last,
-                }),
-                ..target
-            },
-        );
-        self.table.set(
-            from_slot,
-            Mark {
-                added: None,
-                ..source
-            },
-        );
+        let first = moved.first;
+        self.table.set_added(to_slot, Some(Ends { first, last }));
+        self.table.set_added(from_slot, None);
     }
 
     /// What the place was copied to. `None` exactly where this generation set no copy there.
@@ -248,14 +236,7 @@ impl Scratch {
         ensures { self.new ≡ put self.old side number (record (marks self.old side number) { copied = Some made }) }
     {
         let slot = self.table.slot(side, number);
-        let mark = self.table.get(slot);
-        self.table.set(
-            slot,
-            Mark {
-                copied: Some(made),
-                ..mark
-            },
-        );
+        self.table.set_copied(slot, made);
     }
 
     /// What this generation last set as the place's visit, and `Unseen` where it set none.
@@ -272,14 +253,7 @@ impl Scratch {
         ensures { self.new ≡ put self.old side number (record (marks self.old side number) { visit = state }) }
     {
         let slot = self.table.slot(side, number);
-        let mark = self.table.get(slot);
-        self.table.set(
-            slot,
-            Mark {
-                visit: state,
-                ..mark
-            },
-        );
+        self.table.set_visit(slot, state);
     }
 
     /// Puts a pair on the stack of pairs. Condition: there is room for one more.

@@ -1,6 +1,7 @@
 //! A cell of marks for each place, the two sides' places taking turns; a mark stands only in the generation that set it.
-ghost use Rattle.std.specs.Prelude.{◌≡◌, ◌<◌, ◌≤◌, ◌-◌, ◌++◌, [], All, IfOk, length, set};
-ghost use Rattle.patr_scratch.specs.Marks.{mark_at, no_marks, blank};
+ghost use Rattle.std.specs.Prelude.{◌≡◌, ◌<◌, ◌≤◌, ◌-◌, ◌++◌, [], IfOk, Some, length, set};
+ghost use Rattle.patr_scratch.specs.Marks.{mark_at, no_marks};
+ghost use Rattle.patr_scratch.specs.Stamps.{mark_of};
 ghost use Rattle.patr_scratch.specs.Contents.{slot};
 
 use crate::{Copied, Memory, Side, Target, Visit};
@@ -50,6 +51,18 @@ impl Cell {
         stamp: 0,
         mark: Mark::BLANK,
     };
+
+    /// Makes it a cell of this generation, which has what the generation set there.
+    fn renew(&mut self, stamp: u32)
+        ensures { self.new ≡ record { stamp = stamp; mark = mark_of stamp self.old } }
+    {
+        if self.stamp != stamp {
+            *self = Cell {
+                stamp,
+                mark: Mark::BLANK,
+            };
+        }
+    }
 }
 
 /// Marks for the places of both sides, which take turns.
@@ -110,27 +123,60 @@ impl Table {
     }
 
     /// What this generation set there.
-    pub(crate) fn get(&self, slot: usize) -> Mark
+    pub(crate) fn get(&self, slot: usize) -> &Mark
         requires { slot < length self.now }
-        ensures { result ≡ mark_at self.now slot }
+        ensures { result.now ≡ mark_at self.now slot }
     {
-        let cell = self.cells[slot];
+        let cell = &self.cells[slot];
         if cell.stamp == self.stamp {
-            cell.mark
+            &cell.mark
         } else {
-            Mark::BLANK
+            &Mark::BLANK
         }
     }
 
-    /// Sets a mark in this generation.
-    pub(crate) fn set(&mut self, slot: usize, mark: Mark)
+    /// Sets the ends of a list of added arcs in this generation, and keeps what else it set there.
+    pub(crate) fn set_added(&mut self, slot: usize, added: Option<Ends>)
         requires { slot < length self.old }
-        ensures { self.new ≡ set self.old slot mark }
+        ensures { self.new ≡ set self.old slot
+            (record (mark_at self.old slot) { added = added }) }
     {
-        self.cells[slot] = Cell {
-            stamp: self.stamp,
-            mark,
-        };
+        let cell = &mut self.cells[slot];
+        cell.renew(self.stamp);
+        cell.mark.added = added;
+    }
+
+    /// Sets a forward in this generation, and keeps what else it set there.
+    pub(crate) fn set_forward(&mut self, slot: usize, to: Target)
+        requires { slot < length self.old }
+        ensures { self.new ≡ set self.old slot
+            (record (mark_at self.old slot) { forward = Some to }) }
+    {
+        let cell = &mut self.cells[slot];
+        cell.renew(self.stamp);
+        cell.mark.forward = Some(to);
+    }
+
+    /// Sets a copy in this generation, and keeps what else it set there.
+    pub(crate) fn set_copied(&mut self, slot: usize, made: Copied)
+        requires { slot < length self.old }
+        ensures { self.new ≡ set self.old slot
+            (record (mark_at self.old slot) { copied = Some made }) }
+    {
+        let cell = &mut self.cells[slot];
+        cell.renew(self.stamp);
+        cell.mark.copied = Some(made);
+    }
+
+    /// Sets a visit in this generation, and keeps what else it set there.
+    pub(crate) fn set_visit(&mut self, slot: usize, state: Visit)
+        requires { slot < length self.old }
+        ensures { self.new ≡ set self.old slot
+            (record (mark_at self.old slot) { visit = state }) }
+    {
+        let cell = &mut self.cells[slot];
+        cell.renew(self.stamp);
+        cell.mark.visit = state;
     }
 
     /// Takes room for at least so many places. The new ones have no mark. Fails for want of memory alone, and then the

@@ -2,12 +2,14 @@
 use Rattle.std.proofs.Common.{◌≡◌, ℕ, ◌+◌, ◌<◌, ◌≤◌, inl, Option, Some, None, List, [], ◌∷◌, length, drop, get_or, refl, sym, ap, ◌∙◌, subst, ◌++◌, arith}
 use Rattle.std.proofs.lemmas.List.{get_or_default}
 use Rattle.patr_scratch.proofs.Linking.{after_first}
-use Rattle.patr_model.specs.Structure.{Arcs, Value}
-use Rattle.patr_marks.specs.Machine.{Has, own}
+use Rattle.patr_model.specs.Structure.{Arcs, Atom, Value}
+use Rattle.patr_marks.specs.Machine.{Has, HaveTwoAtoms, own}
 use Rattle.patr_marks.specs.Sides.{sides, shift}
 use Rattle.patr_marks.proofs.Lists.{has_left, has_right}
+use Rattle.patr_text.specs.declared.symbols.Id.{Id}
 use Rattle.patr_arena.specs.declared.value.Addr.{Addr}
 use Rattle.patr_arena.specs.declared.value.Feature.{Feature}
+use Rattle.patr_arena.specs.declared.value.Ref.{Ref}
 use Rattle.patr_arena.specs.declared.value.Ref.TheVariants as ref
 use Rattle.patr_arena.specs.Shown.{AllHeld, IsHeld, IsShown, RefIsHeld, Shown, arcs_from, number_of, ref_of}
 use Rattle.patr_scratch.specs.declared.Added.{Added}
@@ -15,7 +17,7 @@ use Rattle.patr_scratch.specs.declared.Place.{Place}
 use Rattle.patr_scratch.specs.declared.Side.{Side}
 use Rattle.patr_scratch.specs.Contents.{Contents, EndsOrHas, HasCell, HasPlace, IsCell, Link, PlaceMarks, after, first_cell, marks, slot}
 use Rattle.patr_unify.specs.Merging.{both}
-use Rattle.patr_unify.specs.Reading.{AreHeld, LinksHeld, TargetIsHeld, added_of, arcs_at, key, marks_of, value_at, arcs_on}
+use Rattle.patr_unify.specs.Reading.{AreHeld, AreTwoAtoms, LinksHeld, TargetIsHeld, added_of, arcs_at, key, marks_of, value_at, arcs_on, value_on}
 use Rattle.patr_unify.proofs.Keys.{first_has, key_marks, own_key}
 use Rattle.patr_unify.proofs.Merges.{place_room}
 use Rattle.patr_unify.proofs.Pushes.{after_held, next_arc}
@@ -110,6 +112,23 @@ module _ (v : Shown) (w : Contents) (s : IsShown v) (held : AreHeld v w) (p : Pl
       let q : first ≡ first_cell ls = e ∙ ap (λ (m : PlaceMarks). first_cell m.added) marks_same in
       (subst (EndsOrHas ls) (sym q) (first_has ls), ap (λ o. arcs_at v (after ls o)) q ∙ ap (arcs_at v) (after_first ls))
 
+-- own arcs of two places, to unequal atoms
+pub two_atoms : (v : Shown) (p q : Place) (f g : Feature) (es fs : Arcs) → Has es f.attribute.0 (arc_of v p f).to → Has fs g.attribute.0 (arc_of v q g).to → AreTwoAtoms f g → HaveTwoAtoms es fs
+two_atoms v p q f g es fs h k t =
+    let n = length v.structure in
+    let to : (s : Side) (b : ℕ) (r : Ref) (c : Id) → r ≡ ref.Atom c → value_on s n (ref_of v b r) ≡ Atom c.0 = λ s b r c e. ap (λ u. value_on s n (ref_of v b u)) e ∙ atom_on s n c.0 in (
+      f.attribute.0,
+      t.0.0,
+      t.1.0,
+      subst (Has es f.attribute.0) (to p.side p.block f.to t.0 t.2) h,
+      subst (Has fs f.attribute.0) (to q.side q.block g.to t.1 t.3) (subst (λ a. Has fs a (arc_of v q g).to) (sym t.4) k),
+      t.5,
+    )
+  where
+    atom_on : (s : Side) (n c : ℕ) → value_on s n (Atom c) ≡ Atom c
+    atom_on side.Left n c = refl
+    atom_on side.Right n c = refl
+
 first_on : (v : Shown) (b : ℕ) (s : Side) (n : ℕ) (fs : List Feature) → 0 < length fs → (a : ℕ) × (x : Value) × Has (arcs_on s n (arcs_from v b fs)) a x
 first_on v b s n [] h = absurd (omega (arith, h))
 first_on v b side.Left n (f ∷ fs) h = (f.attribute.0, ref_of v b f.to, inl (refl, refl))
@@ -137,12 +156,16 @@ added_has v w s p number c h e q =
     first [] q = cc
     first (l ∷ ls) q = (l.attribute, value_at v l.to, inl (refl, refl))
 
-pub both_bare : (v : Shown) (w : Contents) → IsShown v → (p : Place) (number : ℕ) (fs : List Feature) → IsHeld v p.block p.offset → arcs_from v p.block fs ≡ own v.structure (number_of v p.block p.offset) → length fs ≤ 0
-    → number ≡ number_of v p.block p.offset → None ≡ first_cell (marks w p.side number).added → both v w (key v p) ≡ []
-both_bare v w s p number fs h e l n q =
-    let mine : own (sides v.structure) (key v p) ≡ [] = own_key v s p h ∙ (ap (arcs_on p.side (length v.structure)) (sym e) ∙ none_on v p.block p.side (length v.structure) fs l) in
-    ap (λ es. es ++ added_of v w (key v p)) mine ∙ none (marks_of v w (key v p)).added (q ∙ ap (λ (m : PlaceMarks). first_cell m.added) (key_marks v w s p number h n))
+-- where a place has no first cell, it has no added arcs
+pub none_added : (v : Shown) (w : Contents) → IsShown v → (p : Place) (number : ℕ) → IsHeld v p.block p.offset → number ≡ number_of v p.block p.offset → None ≡ first_cell (marks w p.side number).added → added_of v w (key v p) ≡ []
+none_added v w s p number h n q = none (marks_of v w (key v p)).added (q ∙ ap (λ (m : PlaceMarks). first_cell m.added) (key_marks v w s p number h n))
   where
     none : (ls : List Link) → None ≡ first_cell ls → arcs_at v ls ≡ []
     none [] q = refl
     none (l ∷ ls) q = cc
+
+pub both_bare : (v : Shown) (w : Contents) → IsShown v → (p : Place) (number : ℕ) (fs : List Feature) → IsHeld v p.block p.offset → arcs_from v p.block fs ≡ own v.structure (number_of v p.block p.offset) → length fs ≤ 0
+    → number ≡ number_of v p.block p.offset → None ≡ first_cell (marks w p.side number).added → both v w (key v p) ≡ []
+both_bare v w s p number fs h e l n q =
+    let mine : own (sides v.structure) (key v p) ≡ [] = own_key v s p h ∙ (ap (arcs_on p.side (length v.structure)) (sym e) ∙ none_on v p.block p.side (length v.structure) fs l) in
+    ap (λ es. es ++ added_of v w (key v p)) mine ∙ none_added v w s p number h n q

@@ -34,9 +34,20 @@ kept_same w = record {
   pair_room = refl;
   visits = refl;
   visit_room = refl;
-  forward = λ j. refl;
   copied = λ j. refl;
   visit = λ j. refl;
+}
+
+-- the marks of one place are written, but for its copy and its visit
+pub put_kept : (w : Contents) (arcs : ℕ) (s : Side) (n : ℕ) (m : PlaceMarks) → HasPlace w s n → m.copied ≡ (marks w s n).copied → m.visit ≡ (marks w s n).visit → IsKept w (record (put w s n m) { arcs = arcs })
+put_kept w arcs s n m h c x = record {
+  places = length-set w.places (slot s n) m;
+  arc_room = refl;
+  pair_room = refl;
+  visits = refl;
+  visit_room = refl;
+  copied = field_put (λ (u : PlaceMarks). u.copied) w s n m h c;
+  visit = field_put (λ (u : PlaceMarks). u.visit) w s n m h x;
 }
 
 pub kept_then : (w t u : Contents) → IsKept w t → IsKept t u → IsKept w u
@@ -46,7 +57,6 @@ kept_then w t u h k = record {
   pair_room = k.pair_room ∙ h.pair_room;
   visits = k.visits ∙ h.visits;
   visit_room = k.visit_room ∙ h.visit_room;
-  forward = λ j. k.forward j ∙ h.forward j;
   copied = λ j. k.copied j ∙ h.copied j;
   visit = λ j. k.visit j ∙ h.visit j;
 }
@@ -64,9 +74,10 @@ pairs_held_append v [] qs h k = k
 pairs_held_append v (p ∷ ps) qs h k = (h.0, h.1, pairs_held_append v ps qs h.2 k)
 
 -- an arc is given: a later arc has its attribute
-pub given_later : (v : Shown) (w : Contents) (A B a : ℕ) (x : Value) → AreHeld v w → PairsHeld v w.pairs → has_attribute (added_of v w A) a ≡ true → IsGiven v w w A B a x
-given_later v w A B a x h p e = record {
+pub given_later : (v : Shown) (w : Contents) (later : Bool) (B a : ℕ) (x : Value) → AreHeld v w → PairsHeld v w.pairs → later ≡ true → IsGiven v w w later B a x
+given_later v w later B a x h p e = record {
   kept = kept_same w;
+  forward = λ j. refl;
   pairs = sym (append-nil (pairs_at v w.pairs)) ∙ ap (λ b. pairs_at v w.pairs ++ one_pair b (along (both v w B) a) x) (sym e);
   added = ap (λ b. one_more b (along (both v w B) a) a x (added_of v w B)) (sym e);
   others = λ k n. refl;
@@ -76,10 +87,11 @@ given_later v w A B a x h p e = record {
 }
 
 -- a pair is pushed
-pub given_pair : (v : Shown) (w t : Contents) (A B a : ℕ) (x other : Target) → AreHeld v w → PairsHeld v w.pairs → TargetIsHeld v x → TargetIsHeld v other → has_attribute (added_of v w A) a ≡ false
-    → Some (value_at v other) ≡ along (both v w B) a → t ≡ record w { pairs = w.pairs ++ (x, other) ∷ [] } → IsGiven v w t A B a (value_at v x)
-given_pair v w t A B a x other h p hx ho e o is = subst (λ u. IsGiven v w u A B a (value_at v x)) (sym is) (record {
-  kept = record { places = refl; arc_room = refl; pair_room = refl; visits = refl; visit_room = refl; forward = λ j. refl; copied = λ j. refl; visit = λ j. refl };
+pub given_pair : (v : Shown) (w t : Contents) (later : Bool) (B a : ℕ) (x other : Target) → AreHeld v w → PairsHeld v w.pairs → TargetIsHeld v x → TargetIsHeld v other → later ≡ false
+    → Some (value_at v other) ≡ along (both v w B) a → t ≡ record w { pairs = w.pairs ++ (x, other) ∷ [] } → IsGiven v w t later B a (value_at v x)
+given_pair v w t later B a x other h p hx ho e o is = subst (λ u. IsGiven v w u later B a (value_at v x)) (sym is) (record {
+  kept = record { places = refl; arc_room = refl; pair_room = refl; visits = refl; visit_room = refl; copied = λ j. refl; visit = λ j. refl };
+  forward = λ j. refl;
   pairs =
       pairs_append v w.pairs ((x, other) ∷ [])
       ∙ (ap (λ q. pairs_at v w.pairs ++ one_pair false q (value_at v x)) o ∙ ap (λ b. pairs_at v w.pairs ++ one_pair b (along (both v w B) a) (value_at v x)) (sym e));
@@ -91,9 +103,9 @@ given_pair v w t A B a x other h p hx ho e o is = subst (λ u. IsGiven v w u A B
 })
 
 -- an arc is added
-pub given_more : (v : Shown) (w t : Contents) (A : ℕ) (B : Place) (number a : ℕ) (x : Target) → IsShown v → AreHeld v w → PairsHeld v w.pairs → TargetIsHeld v x → IsHeld v B.block B.offset → number ≡ number_of v B.block B.offset
-    → has_attribute (added_of v w A) a ≡ false → None ≡ along (both v w (key v B)) a → t ≡ with_arc w B.side number a x → IsGiven v w t A (key v B) a (value_at v x)
-given_more v w t A B number a x s h p hx hb q e o is = subst (λ u. IsGiven v w u A (key v B) a (value_at v x)) (sym is) (
+pub given_more : (v : Shown) (w t : Contents) (later : Bool) (B : Place) (number a : ℕ) (x : Target) → IsShown v → AreHeld v w → PairsHeld v w.pairs → TargetIsHeld v x → IsHeld v B.block B.offset → number ≡ number_of v B.block B.offset
+    → later ≡ false → None ≡ along (both v w (key v B)) a → t ≡ with_arc w B.side number a x → IsGiven v w t later (key v B) a (value_at v x)
+given_more v w t later B number a x s h p hx hb q e o is = subst (λ u. IsGiven v w u later (key v B) a (value_at v x)) (sym is) (
     let j = slot B.side number in
     let n = length v.structure in
     let l : Link = record { cell = w.arcs; attribute = a; to = x } in
@@ -102,16 +114,8 @@ given_more v w t A B number a x s h p hx hb q e o is = subst (λ u. IsGiven v w 
     let room = key_room v w s h B hb in
     let has : HasPlace w B.side number = omega (arith, room, kj) in
     record {
-      kept = record {
-        places = length-set w.places j m;
-        arc_room = refl;
-        pair_room = refl;
-        visits = refl;
-        visit_room = refl;
-        forward = field_put (λ (u : PlaceMarks). u.forward) w B.side number m has refl;
-        copied = field_put (λ (u : PlaceMarks). u.copied) w B.side number m has refl;
-        visit = field_put (λ (u : PlaceMarks). u.visit) w B.side number m has refl;
-      };
+      kept = put_kept w (w.arcs + 1) B.side number m has refl refl;
+      forward = field_put (λ (u : PlaceMarks). u.forward) w B.side number m has refl;
       pairs =
           sym (append-nil (pairs_at v w.pairs))
           ∙ (ap (λ r. pairs_at v w.pairs ++ one_pair false r (value_at v x)) o ∙ ap (λ b. pairs_at v w.pairs ++ one_pair b (along (both v w (key v B)) a) (value_at v x)) (sym e));

@@ -22,7 +22,7 @@ use Rattle.patr_unify.specs.Reading.{behind, key, value_at, slot_of, marks_in, o
 use Rattle.patr_unify.specs.Merging.{both, rev_onto, IsMerged}
 use Rattle.patr_unify.specs.Stepping.{HasLog, pair_of, before, Outcome, IsSteady, bound, BoundOrNot}
 use Rattle.patr_unify.proofs.Keys.{key_slot, key_room, node_one, slot_one}
-use Rattle.patr_unify.proofs.Merges.{marks_put, field_put}
+use Rattle.patr_unify.proofs.Merges.{marks_put, field_put, kept_same, put_kept}
 
 -- a log no longer than the room of the pairs is followed within it
 pub end_by_log : (v : Shown) (w : Contents) (log : List Forward) (x : Value) → HasLog v w log → length log ≤ w.pair_room → follow w.pair_room (forward_of v w) x ≡ ends log x
@@ -155,7 +155,7 @@ merge_step v w t log a b A B h m n lA lB e eA eB =
     )
 
 pub same_steady : (v : Shown) (w : Contents) → AreHeld v w → PairsHeld v w.pairs → IsSteady v w w
-same_steady v w h p = record { places = refl; arc_room = refl; pair_room = refl; visits = refl; visit_room = refl; copied = λ j. refl; visit = λ j. refl; held = h; pairs_held = p }
+same_steady v w h p = record { kept = kept_same w; held = h; pairs_held = p }
 
 -- nothing is to be done
 pub skip_step : (v : Shown) (w : Contents) (log : List Forward) (a b : Target) → HasLog v w log → ends log (value_at v a) ≡ ends log (value_at v b) → Outcome v w w log a b true
@@ -173,13 +173,7 @@ bind_steady v w p c s h ph i =
     let at = key_slot v s p i in
     let has : HasPlace w p.side n = omega (arith, room, at) in
     record {
-      places = length-set w.places (slot p.side n) m;
-      arc_room = refl;
-      pair_room = refl;
-      visits = refl;
-      visit_room = refl;
-      copied = field_put (λ (u : PlaceMarks). u.copied) w p.side n m has refl;
-      visit = field_put (λ (u : PlaceMarks). u.visit) w p.side n m has refl;
+      kept = put_kept w w.arcs p.side n m has refl refl;
       held = record {
         room = omega (arith, h.room, length-set w.places (slot p.side n) m);
         forwards = λ j. elim (marks_put w p.side n m j has) [
@@ -228,7 +222,7 @@ bind_step v w log a b p c s held i h bare e eA =
 pub bind_outcome : (v : Shown) (w t : Contents) (log : List Forward) (a b : Target) (p : Place) (c : ℕ) (r : Bool) → IsShown v → AreHeld v w → IsHeld v p.block p.offset → HasLog v w log → BoundOrNot v w t p c r
     → Ends (before v w log a b) (pair_of v a b) (Node (key v p)) (Atom c) → ends log (Node (key v p)) ≡ Node (key v p) → Outcome v w t log a b r
 bind_outcome v w t log a b p c true s held i h g e eA = subst (λ u. Outcome v w u log a b true) (sym g.1) (bind_step v w log a b p c s held i h g.0 e eA)
-bind_outcome v w t log a b p c false s held i h g e eA = record { popped = refl; clash = inr (key v p, c, g.0.0, g.0.1, e, g.0.2) }
+bind_outcome v w t log a b p c false s held i h g e eA = record { popped = refl; clash = inr (inl (key v p, c, g.0.0, g.0.1, e, g.0.2)) }
 
 pub bind_keeps : (v : Shown) (w t : Contents) (p : Place) (c : ℕ) (r : Bool) → IsShown v → AreHeld v w → PairsHeld v w.pairs → IsHeld v p.block p.offset → BoundOrNot v w t p c r → IsSteady v w t
 bind_keeps v w t p c true s h ph i g = subst (IsSteady v w) (sym g.1) (bind_steady v w p c s h ph i)

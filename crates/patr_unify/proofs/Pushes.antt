@@ -191,20 +191,22 @@ merged v w t u x y from to source destination s hA hB ne eA eB h g mx my =
     let places : length z.places ≡ length t.places =
     length-set (set (set t.places K mB) J mA) J (record (get_or (set (set t.places K mB) J mA) J unmarked) { forward = Some (target.Place to) }) ∙ (length-set (set t.places K mB) J mA ∙ length-set t.places K mB) in
     subst (λ q. IsMerged v w q A B) (sym is) (record {
-      places = places ∙ h.kept.places;
-      arc_room = h.kept.arc_room;
-      pair_room = h.kept.pair_room;
-      visits = h.kept.visits;
-      visit_room = h.kept.visit_room;
-      copied = λ j. merged_all (λ (j : ℕ) (p : PlaceMarks). p.copied ≡ (marks_in t j).copied) f z J K (target.Place to) m refl refl (λ j. refl) j ∙ h.kept.copied j;
-      visit = λ j. merged_all (λ (j : ℕ) (p : PlaceMarks). p.visit ≡ (marks_in t j).visit) f z J K (target.Place to) m refl refl (λ j. refl) j ∙ h.kept.visit j;
+      kept = record {
+        places = places ∙ h.kept.places;
+        arc_room = h.kept.arc_room;
+        pair_room = h.kept.pair_room;
+        visits = h.kept.visits;
+        visit_room = h.kept.visit_room;
+        copied = λ j. merged_all (λ (j : ℕ) (p : PlaceMarks). p.copied ≡ (marks_in t j).copied) f z J K (target.Place to) m refl refl (λ j. refl) j ∙ h.kept.copied j;
+        visit = λ j. merged_all (λ (j : ℕ) (p : PlaceMarks). p.visit ≡ (marks_in t j).visit) f z J K (target.Place to) m refl refl (λ j. refl) j ∙ h.kept.visit j;
+      };
       pairs = g.pairs ∙ (ap (λ ps. pairs_at v t.pairs ++ ps) (taken_matches v w t A B ne h) ∙ h.pairs);
       forward = ap (λ i. option_at v (marks_in z i).forward) sJ ∙ ap (λ (p : PlaceMarks). option_at v p.forward) m.here;
       forwards = λ k nA. elim (cases_eq k B) [
         | inl e ↦
             ap (λ i. option_at v (marks_in z (slot_of n i)).forward) e ∙ (ap (λ i. option_at v (marks_in z i).forward) sK ∙ (ap (λ (p : PlaceMarks). option_at v p.forward) m.there
-            ∙ (ap (option_at v) (h.kept.forward K) ∙ (ap (λ i. option_at v (marks_in w i).forward) (sym sK) ∙ ap (λ i. option_at v (marks_in w (slot_of n i)).forward) (sym e)))))
-        | inr nB ↦ ap (λ (p : PlaceMarks). option_at v p.forward) (others k nA nB) ∙ ap (option_at v) (h.kept.forward (slot_of n k))
+            ∙ (ap (option_at v) (h.forward K) ∙ (ap (λ i. option_at v (marks_in w i).forward) (sym sK) ∙ ap (λ i. option_at v (marks_in w (slot_of n i)).forward) (sym e)))))
+        | inr nB ↦ ap (λ (p : PlaceMarks). option_at v p.forward) (others k nA nB) ∙ ap (option_at v) (h.forward (slot_of n k))
       ];
       emptied = ap (λ i. arcs_at v (marks_in z i).added) sJ ∙ ap (λ (p : PlaceMarks). arcs_at v p.added) m.here;
       added =

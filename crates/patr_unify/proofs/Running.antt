@@ -111,17 +111,17 @@ running_on v w t a b l r target ks i c k o =
       log = new;
       has_log = o.1;
       run = sized.0;
-      pair_room = omega (arith, sized.1, i.pair_room, o.2, size, pairs_length v t.pairs, length-append w.pairs ((a, b) ∷ []), k.pair_room);
-      arc_room = omega (arith, sized.2, i.arc_room, k.arc_room);
+      pair_room = omega (arith, sized.1, i.pair_room, o.2, size, pairs_length v t.pairs, length-append w.pairs ((a, b) ∷ []), k.kept.pair_room);
+      arc_room = omega (arith, sized.2, i.arc_room, k.kept.arc_room);
       rooms = record {
-        for_places = omega (arith, i.rooms.for_places, k.places);
-        for_visits = omega (arith, i.rooms.for_visits, k.visit_room);
-        for_arcs = omega (arith, i.rooms.for_arcs, k.arc_room);
-        for_pairs = omega (arith, i.rooms.for_pairs, k.pair_room);
+        for_places = omega (arith, i.rooms.for_places, k.kept.places);
+        for_visits = omega (arith, i.rooms.for_visits, k.kept.visit_room);
+        for_arcs = omega (arith, i.rooms.for_arcs, k.kept.arc_room);
+        for_pairs = omega (arith, i.rooms.for_pairs, k.kept.pair_room);
       };
-      unseen = λ j. k.visit j ∙ i.unseen j;
-      uncopied = λ j. k.copied j ∙ i.uncopied j;
-      empty = k.visits ∙ i.empty;
+      unseen = λ j. k.kept.visit j ∙ i.unseen j;
+      uncopied = λ j. k.kept.copied j ∙ i.uncopied j;
+      empty = k.kept.visits ∙ i.empty;
     }
   where
     one : (n : ℕ) → n + 1 ≡ suc n

@@ -1,5 +1,6 @@
 -- All own arcs of a place are given to another.
 use Rattle.std.proofs.Common.{◌≡◌, ◌≢◌, ℕ, zero, suc, ◌+◌, ◌<◌, ◌≤◌, Bool, true, false, cond, nat_eq, ◌||◌, Option, Some, None, List, [], ◌∷◌, ◌++◌, length, length-append, get_or, drop, refl, sym, ap, ◌∙◌, subst, arith, eq-eqb, ne_eqb, append_assoc, add-one}
+use Rattle.std.proofs.lemmas.List.{append-nil}
 use Rattle.patr_lists.proofs.Conditions.{or_left, or_right}
 use Rattle.patr_model.specs.Structure.{Value, Arc, Arcs, along, HasDistinct}
 use Rattle.patr_marks.specs.Machine.{Pair, own, has_attribute, pair_with, matches, missing}
@@ -12,7 +13,7 @@ use Rattle.patr_scratch.specs.declared.Side.TheVariants as side
 use Rattle.patr_scratch.specs.declared.Place.{Place}
 use Rattle.patr_scratch.specs.Contents.{Contents}
 use Rattle.patr_unify.specs.Reading.{key, added_of, pairs_at, value_on, arcs_on}
-use Rattle.patr_unify.specs.Merging.{both, one_pair, one_more, IsGiven, rev_onto, IsTaken, HasMergeRoom}
+use Rattle.patr_unify.specs.Merging.{both, one_pair, one_more, IsFoundInOwn, IsGiven, rev_onto, IsTaken, HasMergeRoom}
 use Rattle.patr_unify.proofs.Keys.{own_key}
 use Rattle.patr_unify.proofs.Merges.{kept_then, pairs_length}
 
@@ -82,26 +83,35 @@ finds_step es fs bs later rest e false None h f a i =
     let ne : e.attribute ≢ a = λ q. let bad : true ≡ false = sym i ∙ (ap (has_attribute (rest ++ later)) (sym q) ∙ h) in cc in
     along_insert es fs e a ne ∙ f a (or_right (nat_eq e.attribute a) (has_attribute (rest ++ later) a) i)
 
+-- what the next arc meets was there before
+pub found_first : (v : Shown) (w t : Contents) (A B : ℕ) (e : Arc) (rest : Arcs) → IsTaken v w t A B (e ∷ rest) → along (both v t B) e.attribute ≡ along (both v w B) e.attribute
+found_first v w t A B e rest h = h.finds e.attribute (or_left (nat_eq e.attribute e.attribute) (has_attribute (rest ++ added_of v w A) e.attribute) (eq-eqb e.attribute e.attribute refl))
+
+pub found_in_own : (v : Shown) (w t : Contents) (A B : ℕ) (e : Arc) (rest : Arcs) → IsTaken v w t A B (e ∷ rest) → added_of v w B ≡ [] → IsFoundInOwn v t B e.attribute
+found_in_own v w t A B e rest h none =
+    let own_B = own (sides v.structure) B in
+    found_first v w t A B e rest h ∙ ap (λ es. along es e.attribute) (ap (λ fs. own_B ++ fs) none ∙ append-nil own_B)
+
 -- one more own arc is given
-pub taken_step : (v : Shown) (w t u : Contents) (A B : ℕ) (e : Arc) (rest : Arcs) → A ≢ B → along rest e.attribute ≡ None → IsTaken v w t A B (e ∷ rest) → IsGiven v t u A B e.attribute e.to → IsTaken v w u A B rest
-taken_step v w t u A B e rest n d h g =
+pub taken_step : (v : Shown) (w t u : Contents) (A B : ℕ) (b : Bool) (e : Arc) (rest : Arcs) → A ≢ B → along rest e.attribute ≡ None → b ≡ has_attribute (added_of v t A) e.attribute → IsTaken v w t A B (e ∷ rest) → IsGiven v t u b B e.attribute e.to → IsTaken v w u A B rest
+taken_step v w t u A B b e rest n d hb h g =
     let later = added_of v w A in
     let bs = both v w B in
     let own_B = own (sides v.structure) B in
     let a = e.attribute in
-    let same : added_of v t A ≡ later = h.others A n in
     let l = has_attribute later a in
     let o = along bs a in
     let d' : has_attribute rest a ≡ false = none_has rest a d in
     let lr : has_attribute (rest ++ later) a ≡ l = has_append rest later a d' in
-    let has : has_attribute (added_of v t A) a ≡ l = ap (λ es. has_attribute es a) same in
-    let finds : along (both v t B) a ≡ o = h.finds a (or_left (nat_eq a a) (has_attribute (rest ++ later) a) (eq-eqb a a refl)) in
+    let has : b ≡ l = hb ∙ ap (λ es. has_attribute es a) (h.others A n) in
+    let finds : along (both v t B) a ≡ o = found_first v w t A B e rest h in
     let added : added_of v u B ≡ one_more l o a e.to (added_of v t B) =
     g.added ∙ (ap (λ b. one_more b (along (both v t B) a) a e.to (added_of v t B)) has ∙ ap (λ q. one_more l q a e.to (added_of v t B)) finds) in
     let pairs : pairs_at v u.pairs ≡ pairs_at v t.pairs ++ one_pair l o e.to =
     g.pairs ∙ (ap (λ b. pairs_at v t.pairs ++ one_pair b (along (both v t B) a) e.to) has ∙ ap (λ q. pairs_at v t.pairs ++ one_pair l q e.to) finds) in
     record {
       kept = kept_then w t u h.kept g.kept;
+      forward = λ j. g.forward j ∙ h.forward j;
       pairs =
           ap (λ ps. ps ++ matches (rest ++ later) bs) pairs
           ∙ (append_assoc (pairs_at v t.pairs) (one_pair l o e.to) (matches (rest ++ later) bs)
@@ -115,16 +125,16 @@ taken_step v w t u A B e rest n d h g =
     }
 
 -- there is room for the pair of the next arc
-pub pair_fits : (v : Shown) (w t : Contents) (A B : ℕ) (e : Arc) (rest : Arcs) → A ≢ B → along rest e.attribute ≡ None → IsTaken v w t A B (e ∷ rest) → HasMergeRoom v w A B
-    → length t.pairs + length (one_pair (has_attribute (added_of v t A) e.attribute) (along (both v t B) e.attribute) e.to) ≤ t.pair_room
-pair_fits v w t A B e rest n d h r =
+pub pair_fits : (v : Shown) (w t : Contents) (A B : ℕ) (b : Bool) (e : Arc) (rest : Arcs) → A ≢ B → along rest e.attribute ≡ None → b ≡ has_attribute (added_of v t A) e.attribute → IsTaken v w t A B (e ∷ rest) → HasMergeRoom v w A B
+    → length t.pairs + length (one_pair b (along (both v t B) e.attribute) e.to) ≤ t.pair_room
+pair_fits v w t A B b e rest n d hb h r =
     let later = added_of v w A in
     let bs = both v w B in
     let a = e.attribute in
     let l = has_attribute later a in
     let o = along bs a in
-    let has : has_attribute (added_of v t A) a ≡ l = ap (λ es. has_attribute es a) (h.others A n) in
-    let finds : along (both v t B) a ≡ o = h.finds a (or_left (nat_eq a a) (has_attribute (rest ++ later) a) (eq-eqb a a refl)) in
+    let has : b ≡ l = hb ∙ ap (λ es. has_attribute es a) (h.others A n) in
+    let finds : along (both v t B) a ≡ o = found_first v w t A B e rest h in
     let all : pairs_at v t.pairs ++ (one_pair l o e.to ++ matches (rest ++ later) bs) ≡ pairs_at v w.pairs ++ matches (both v w A) bs =
     ap (λ ps. pairs_at v t.pairs ++ ps) (sym (matches_step e rest later bs (none_has rest a d))) ∙ h.pairs in
     let size = ap (length {A = Pair}) all in

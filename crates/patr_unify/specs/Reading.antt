@@ -4,11 +4,14 @@
 --     forward_of v w k   where the forward of the place k leads
 --     added_of v w k     the added arcs of the place k
 --     state_of v w log   the state that the scratch stands for
-use Rattle.std.specs.Prelude.{◌≡◌, ℕ, ◌+◌, ◌-◌, ◌*◌, ◌≤◌, Bool, false, cond, nat_lt, nat_eq, ◌||◌, Option, Some, None, List, [], ◌∷◌, length, get_or}
+use Rattle.std.specs.Prelude.{◌≡◌, ◌≢◌, ℕ, ◌+◌, ◌-◌, ◌*◌, ◌≤◌, Bool, false, cond, nat_lt, nat_eq, ◌||◌, Option, Some, None, List, [], ◌∷◌, length, get_or}
 use Rattle.patr_model.specs.Structure.{Value, Atom, Node, Arcs}
 use Rattle.patr_marks.specs.Machine.{Forward, Pair, State}
 use Rattle.patr_marks.specs.Settled.{follow, IsFinal}
 use Rattle.patr_marks.specs.Sides.{shift, shifted}
+use Rattle.patr_text.specs.declared.symbols.Id.{Id}
+use Rattle.patr_arena.specs.declared.value.Feature.{Feature}
+use Rattle.patr_arena.specs.declared.value.Ref.TheVariants as ref
 use Rattle.patr_arena.specs.declared.value.Value as its
 use Rattle.patr_arena.specs.declared.value.Value.TheVariants as value
 use Rattle.patr_arena.specs.Shown.{Shown, IsHeld, number_of}
@@ -49,6 +52,10 @@ marks_in w j = get_or w.places j unmarked
 -- the marks of a place of both sides
 abbrev pub marks_of : Shown → Contents → ℕ → PlaceMarks
 marks_of v w k = marks_in w (slot_of (length v.structure) k)
+
+-- two arcs of nodes have one attribute, and lead to unequal atoms
+abbrev pub AreTwoAtoms : Feature → Feature → Type 0
+AreTwoAtoms f g = (c d : Id) × (f.to ≡ ref.Atom c) × (g.to ≡ ref.Atom d) × (f.attribute.0 ≡ g.attribute.0) × (c.0 ≢ d.0)
 
 -- what a target that may be missing stands for
 abbrev pub option_at : Shown → Option Target → Option Value

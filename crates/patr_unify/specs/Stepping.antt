@@ -13,7 +13,7 @@ use Rattle.patr_scratch.specs.declared.Target.{Target}
 use Rattle.patr_scratch.specs.declared.Target.TheVariants as target
 use Rattle.patr_scratch.specs.declared.Visit.TheVariants as visit
 use Rattle.patr_scratch.specs.Contents.{HasRoom, Contents, marks, put}
-use Rattle.patr_unify.specs.Merging.{HasMergeRoom, both}
+use Rattle.patr_unify.specs.Merging.{HasMergeRoom, IsKept, both}
 use Rattle.patr_unify.specs.Reading.{AreHeld, PairsHeld, added_of, forward_of, key, marks_in, pairs_at, state_of, value_at}
 
 -- the forwards of the scratch are those of the log
@@ -44,13 +44,7 @@ Outcome v w t log a b false = IsClash (sides v.structure) (before v w log a b) (
 
 -- what every step leaves
 pub record IsSteady (v : Shown) (w : Contents) (t : Contents) : Type 0 where
-  pub places : length t.places ≡ length w.places
-  pub arc_room : t.arc_room ≡ w.arc_room
-  pub pair_room : t.pair_room ≡ w.pair_room
-  pub visits : t.visits ≡ w.visits
-  pub visit_room : t.visit_room ≡ w.visit_room
-  pub copied : (j : ℕ) → (marks_in t j).copied ≡ (marks_in w j).copied
-  pub visit : (j : ℕ) → (marks_in t j).visit ≡ (marks_in w j).visit
+  pub kept : IsKept w t
   pub held : AreHeld v t
   pub pairs_held : PairsHeld v t.pairs
 

@@ -12,6 +12,7 @@
 #![tactic(auto)]
 
 mod build;
+mod clash;
 mod count;
 mod cursor;
 mod draft;

@@ -1,12 +1,12 @@
 //! Reading the arcs of a place: its own, and then the added ones.
-ghost use Rattle.std.specs.Prelude.{◌≡◌, ℕ, ◌++◌, length};
+ghost use Rattle.std.specs.Prelude.{◌≡◌, [], length, false};
 ghost use Rattle.patr_model.specs.Structure.{along};
-ghost use Rattle.patr_marks.specs.Machine.{own};
+ghost use Rattle.patr_marks.specs.Machine.{has_attribute, own};
 ghost use Rattle.patr_marks.specs.Sides.{sides};
 ghost use Rattle.patr_arena.specs.Shown.{IsHeld, RefIsHeld, ref_of};
 ghost use Rattle.patr_scratch.specs.Contents.{EndsOrHas, HasPlace, after, marks};
-ghost use Rattle.patr_unify.specs.Merging.{both};
-ghost use Rattle.patr_unify.specs.Reading.{AreHeld, OptionIsHeld, TargetIsHeld, has_link, key, link_to, option_at, target_on, value_at, value_on};
+ghost use Rattle.patr_unify.specs.Merging.{IsFoundInOwn, both};
+ghost use Rattle.patr_unify.specs.Reading.{AreHeld, OptionIsHeld, TargetIsHeld, added_of, has_link, key, link_to, option_at, target_on, value_at, value_on};
 
 use crate::ends::{address, number};
 use patr_arena::{Id, Nodes, Ref, Value, resolve_path};
@@ -91,29 +91,67 @@ pub(crate) fn find_own<N: Nodes>(nodes: &N, place: Place, attribute: u32) -> Opt
     }
 }
 
-/// Where the place's first arc with the attribute leads, of its own arcs and then of the added ones.
+/// Whether the place has an added arc.
+pub(crate) fn is_extended<N: Nodes>(nodes: &N, scratch: &Scratch, place: Place) -> bool
+    requires place { IsHeld (N.shown nodes.now) place.block place.offset }
+    requires held { AreHeld (N.shown nodes.now) scratch.now }
+    ensures { result ≡ false →
+        added_of (N.shown nodes.now) scratch.now (key (N.shown nodes.now) place) ≡ [] }
+{
+    match scratch.first_arc(place.side, number(nodes, place)) {
+        Some(_) => true,
+        None => false,
+    }
+}
+
+/// Where the place's first arc with the attribute leads, of its own arcs and then of the added ones. These are looked
+/// through only where the place is said to be extended.
 pub(crate) fn find<N: Nodes>(
     nodes: &N,
     scratch: &Scratch,
     place: Place,
     attribute: u32,
+    extended: bool,
 ) -> Option<Target>
     requires place { IsHeld (N.shown nodes.now) place.block place.offset }
     requires held { AreHeld (N.shown nodes.now) scratch.now }
-    ensures same { option_at (N.shown nodes.now) result ≡ along (both (N.shown nodes.now) scratch.now (key (N.shown nodes.now) place)) attribute }
+    requires extended { extended ≡ false →
+        IsFoundInOwn (N.shown nodes.now) scratch.now (key (N.shown nodes.now) place) attribute }
+    ensures same { option_at (N.shown nodes.now) result
+        ≡ along (both (N.shown nodes.now) scratch.now (key (N.shown nodes.now) place)) attribute }
     ensures held { OptionIsHeld (N.shown nodes.now) result }
 {
     match find_own(nodes, place, attribute) {
         Some(target) => Some(target),
-        None => find_added(scratch, place.side, number(nodes, place), attribute),
+        None => {
+            if extended {
+                return find_added(scratch, place.side, number(nodes, place), attribute);
+            }
+            None
+        }
     }
 }
 
-/// Whether the place has an added arc with the attribute.
-pub(crate) fn has_added(scratch: &Scratch, side: Side, number: u64, attribute: u32) -> bool
-    requires { HasPlace scratch.now side number }
-    ensures { result ≡ has_link (marks scratch.now side number).added attribute }
+/// Whether the place has an added arc with the attribute. They are looked through only where the place is said to be
+/// extended.
+pub(crate) fn has_added<N: Nodes>(
+    nodes: &N,
+    scratch: &Scratch,
+    place: Place,
+    attribute: u32,
+    extended: bool,
+) -> bool
+    requires place { IsHeld (N.shown nodes.now) place.block place.offset }
+    requires held { AreHeld (N.shown nodes.now) scratch.now }
+    requires extended { extended ≡ false →
+        added_of (N.shown nodes.now) scratch.now (key (N.shown nodes.now) place) ≡ [] }
+    ensures { result ≡ has_attribute
+        (added_of (N.shown nodes.now) scratch.now (key (N.shown nodes.now) place)) attribute }
 {
-    let first = scratch.first_arc(side, number);
-    listed(scratch, side, number, first, attribute)
+    if !extended {
+        return false;
+    }
+    let number = number(nodes, place);
+    let first = scratch.first_arc(place.side, number);
+    listed(scratch, place.side, number, first, attribute)
 }

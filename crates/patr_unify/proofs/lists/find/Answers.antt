@@ -8,13 +8,13 @@ returns-in-Some-clause-same g c =
     let v = g.N.Nodes.shown c.args.nodes.now in
     found_own v c.args.scratch.now (key v c.args.place) c.args.attribute c.in-Some.target c.in-Some.ensures.same
 
-pub returns-in-None-clause-same : goal.returns-in-None-clause-same
-returns-in-None-clause-same g c =
+pub returns-then-extended-clause-same : goal.returns-then-extended-clause-same
+returns-then-extended-clause-same g c =
     let v = g.N.Nodes.shown c.args.nodes.now in
     found_added v c.args.scratch.now (g.met.N.Nodes.lawful c.args.nodes.now) c.args.place c.number.result c.args.attribute c.find_added.result c.requires.place c.number.ensures c.in-None.ensures.same c.find_added.ensures
 
-pub returns-in-None-clause-held : goal.returns-in-None-clause-held
-returns-in-None-clause-held g c =
+pub returns-then-extended-clause-held : goal.returns-then-extended-clause-held
+returns-then-extended-clause-held g c =
     let v = g.N.Nodes.shown c.args.nodes.now in
     found_held v c.args.scratch.now (g.met.N.Nodes.lawful c.args.nodes.now) c.requires.held c.args.place c.number.result c.args.attribute c.find_added.result c.requires.place c.number.ensures c.find_added.ensures
 

@@ -26,6 +26,12 @@ returns-then-same_place-clause-outcome g c log h =
     let same : c.in-Place.first ≡ c.in-Place-dereference-2.second = c.same_place.ensures.yes c.if-same_place.true in
     skip_step v c.args.scratch.now log c.args.a c.args.b h (e.first ∙ (ap (λ (p : Place). Node (key v p)) same ∙ sym e.second))
 
+pub returns-then-atoms_differ-clause-outcome : goal.returns-then-atoms_differ-clause-outcome
+returns-then-atoms_differ-clause-outcome g c log h =
+    let v = g.N.Nodes.shown c.args.nodes.now in
+    let e = ends_are v c.args.scratch.now log c.args.a c.args.b (target.Place c.in-Place.first) (target.Place c.in-Place-dereference-2.second) h c.in-Place.ensures c.in-Place-dereference-2.ensures in
+    record { popped = refl; clash = inr (inr (key v c.in-Place.first, key v c.in-Place-dereference-2.second, inl (e.first, e.second), c.atoms_differ.ensures c.if-atoms_differ.true)) }
+
 -- the two places have two keys, and are ends
 place_facts : (g : Over) (c : After-goes_first g) → (key (g.N.Nodes.shown c.args.nodes.now) c.in-Place.first ≢ key (g.N.Nodes.shown c.args.nodes.now) c.in-Place-dereference-2.second)
     × ((log : List Forward) → HasLog (g.N.Nodes.shown c.args.nodes.now) c.args.scratch.now log → AreEnds (g.N.Nodes.shown c.args.nodes.now) log c.args.a c.args.b (target.Place c.in-Place.first) (target.Place c.in-Place-dereference-2.second))

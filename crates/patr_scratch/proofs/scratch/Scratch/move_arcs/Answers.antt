@@ -14,13 +14,13 @@ pub returns-in_default : goal.returns-in_default
 returns-in_default c =
     let was = c.self.inside in
     nothing_moved c.args.self.now c.args.from_side c.args.to_side c.args.from c.args.to
-    (list_empty was.table was.arcs was.pairs was.visits c.args.self.now c.args.from_side c.args.from c.slot-from_slot.result c.get-source.result c.self.view_is c.slot-from_slot.ensures c.get-source.ensures c.in_default.is)
+    (list_empty was.table was.arcs was.pairs was.visits c.args.self.now c.args.from_side c.args.from c.slot-from_slot.result c.get-source.result.now c.self.view_is c.slot-from_slot.ensures c.get-source.ensures c.in_default.is)
 
 pub get-joint-requires : goal.get-joint-requires
-get-joint-requires c = last_below c.self.inside.table c.self.inside.arcs.list c.slot-from_slot.result c.get-source.result c.in-Some.moved c.self.invariant c.get-source.ensures c.in-Some.is
+get-joint-requires c = last_below c.self.inside.table c.self.inside.arcs.list c.slot-from_slot.result c.get-source.result.now c.in-Some.moved c.self.invariant c.get-source.ensures c.in-Some.is
 
 pub set-requires : goal.set-requires
-set-requires c = last_below c.self.inside.table c.self.inside.arcs.list c.slot-from_slot.result c.get-source.result c.in-Some.moved c.self.invariant c.get-source.ensures c.in-Some.is
+set-requires c = last_below c.self.inside.table c.self.inside.arcs.list c.slot-from_slot.result c.get-source.result.now c.in-Some.moved c.self.invariant c.get-source.ensures c.in-Some.is
 
 pub invariant_of-self : goal.invariant_of-self
 invariant_of-self c =
@@ -29,24 +29,26 @@ invariant_of-self c =
     let B = slot c.args.to_side c.args.to in
     let lA : A < length was.table = omega (arith, c.requires.from, ap (λ (v : Contents). length v.places) c.self.view_is, length-map was.table (place_of was.arcs.list)) in
     let lB : B < length was.table = omega (arith, c.requires.to, ap (λ (v : Contents). length v.places) c.self.view_is, length-map was.table (place_of was.arcs.list)) in
-    let below = last_below was.table was.arcs.list c.slot-from_slot.result c.get-source.result c.in-Some.moved c.self.invariant c.get-source.ensures c.in-Some.is in
-    let w = arcs_moved was.table was.arcs c.slot-from_slot.result c.slot-to_slot.result c.in-Some.moved c.get-source.result c.get-target.result c.first_of-next.result c.last_or-last.result c.get-joint.result c.set.new.self c.set-2.new.self c.set-3.new.self
+    let apart = apart_slots c.args.from_side c.args.to_side c.args.from c.args.to c.requires.apart in
+    let below = last_below was.table was.arcs.list c.slot-from_slot.result c.get-source.result.now c.in-Some.moved c.self.invariant c.get-source.ensures c.in-Some.is in
+    let w = arcs_moved was.table was.arcs c.slot-from_slot.result c.slot-to_slot.result c.in-Some.moved c.get-target.result.now c.first_of-next.result c.last_or-last.result c.get-joint.result c.set.new.self c.set_added.new.self c.set_added-2.new.self
     c.args.from_side c.args.to_side c.args.from c.args.to
-    c.slot-from_slot.ensures c.slot-to_slot.ensures c.get-source.ensures c.get-target.ensures c.first_of-next.ensures c.last_or-last.ensures below c.get-joint.ensures c.set.ensures c.set-2.ensures c.set-3.ensures in
+    c.slot-from_slot.ensures c.slot-to_slot.ensures c.get-target.ensures c.first_of-next.ensures c.last_or-last.ensures below c.get-joint.ensures c.set.ensures apart c.set_added.ensures c.set_added-2.ensures in
     let some : (mark_at was.table A).added ≡ Some c.in-Some.moved = ap (λ (u : Mark). u.added) (sym (c.get-source.ensures ∙ ap (mark_at was.table) c.slot-from_slot.ensures)) ∙ c.in-Some.is in
     subst (λ (ms : List Mark). IsLinked ms c.set.new.self.list) (sym w.0) (subst (λ (a : WithRoom ArcCell). IsLinked (moved_marks was.table A B c.in-Some.moved) a.list) (sym w.1)
-    (linked_moved was.table was.arcs.list A B c.in-Some.moved c.self.invariant (apart_slots c.args.from_side c.args.to_side c.args.from c.args.to c.requires.apart) lA lB some))
+    (linked_moved was.table was.arcs.list A B c.in-Some.moved c.self.invariant apart lA lB some))
 
 pub returns : goal.returns
 returns c =
     let was = c.self.inside in
     let A = slot c.args.from_side c.args.from in
     let B = slot c.args.to_side c.args.to in
-    let below = last_below was.table was.arcs.list c.slot-from_slot.result c.get-source.result c.in-Some.moved c.self.invariant c.get-source.ensures c.in-Some.is in
-    let w = arcs_moved was.table was.arcs c.slot-from_slot.result c.slot-to_slot.result c.in-Some.moved c.get-source.result c.get-target.result c.first_of-next.result c.last_or-last.result c.get-joint.result c.set.new.self c.set-2.new.self c.set-3.new.self
+    let apart = apart_slots c.args.from_side c.args.to_side c.args.from c.args.to c.requires.apart in
+    let below = last_below was.table was.arcs.list c.slot-from_slot.result c.get-source.result.now c.in-Some.moved c.self.invariant c.get-source.ensures c.in-Some.is in
+    let w = arcs_moved was.table was.arcs c.slot-from_slot.result c.slot-to_slot.result c.in-Some.moved c.get-target.result.now c.first_of-next.result c.last_or-last.result c.get-joint.result c.set.new.self c.set_added.new.self c.set_added-2.new.self
     c.args.from_side c.args.to_side c.args.from c.args.to
-    c.slot-from_slot.ensures c.slot-to_slot.ensures c.get-source.ensures c.get-target.ensures c.first_of-next.ensures c.last_or-last.ensures below c.get-joint.ensures c.set.ensures c.set-2.ensures c.set-3.ensures in
+    c.slot-from_slot.ensures c.slot-to_slot.ensures c.get-target.ensures c.first_of-next.ensures c.last_or-last.ensures below c.get-joint.ensures c.set.ensures apart c.set_added.ensures c.set_added-2.ensures in
     let some : (mark_at was.table A).added ≡ Some c.in-Some.moved = ap (λ (u : Mark). u.added) (sym (c.get-source.ensures ∙ ap (mark_at was.table) c.slot-from_slot.ensures)) ∙ c.in-Some.is in
     ap (λ (ms : List Mark). contents_of ms c.set.new.self was.pairs was.visits) w.0
     ∙ (ap (λ (a : WithRoom ArcCell). contents_of (moved_marks was.table A B c.in-Some.moved) a was.pairs was.visits) w.1
-    ∙ moved_view was.table was.arcs was.pairs was.visits c.args.self.now c.args.from_side c.args.to_side c.args.from c.args.to c.in-Some.moved c.self.invariant c.self.view_is c.requires.from c.requires.to (apart_slots c.args.from_side c.args.to_side c.args.from c.args.to c.requires.apart) some)
+    ∙ moved_view was.table was.arcs was.pairs was.visits c.args.self.now c.args.from_side c.args.to_side c.args.from c.args.to c.in-Some.moved c.self.invariant c.self.view_is c.requires.from c.requires.to apart some)
