@@ -30,12 +30,12 @@ use Rattle.patr_scratch.specs.declared.Copied.TheVariants as copied
 use Rattle.patr_scratch.specs.declared.Place.{Place}
 use Rattle.patr_scratch.specs.declared.Visit.TheVariants as visit
 use Rattle.patr_scratch.specs.Contents.{Contents}
-use Rattle.patr_unify.specs.Copying.{Fits, HasComeTo, HasRoomToEnter, IsCopiedTo, IsCopyMarked, IsEndRef, IsKeptOrNot, IsNodeOf, MarkFits, copied_of, copying_by, free_of, made_of, new_nodes, stays_free}
+use Rattle.patr_unify.specs.Copying.{IsWorked, Fits, HasComeTo, HasRoomToEnter, IsCopiedTo, IsCopyMarked, IsEndRef, IsKeptOrNot, IsNodeOf, MarkFits, copied_of, copying_by, free_of, made_of, new_nodes, stays_free}
 use Rattle.patr_unify.specs.Deciding.{IsEndOfLeft, IsSettledFor}
 use Rattle.patr_unify.specs.Merging.{both}
 use Rattle.patr_unify.specs.Reading.{added_of, forward_of, key, marks_in, slot_of}
 use Rattle.patr_unify.specs.Walking.{HasVisit, IsFoundAt, IsOther, end_value, visit_of}
-use Rattle.patr_unify.proofs.Worked.{HasCopied, IsFalling, IsWorked, arcs_longer, base_arcs, base_key, copied_more, falling_once, left_or, mark_more, marked_keeps, new_place, old_from, old_to, ref_value, still_worked, worked_added, worked_both, worked_end, worked_forward, worked_then}
+use Rattle.patr_unify.proofs.Worked.{HasCopied, IsFalling, arcs_longer, base_arcs, base_key, copied_more, falling_once, left_or, mark_more, marked_keeps, new_place, old_from, old_to, ref_value, still_worked, worked_added, worked_both, worked_end, worked_forward, worked_then}
 
 -- one end is copied
 module _ (v : Shown) (s : IsShown v) (w t u : Contents) (l : ℕ) (r : Value) (p : List ℕ) (set : IsSettledFor v w l p r) (fits : marks_settled.Fits (IsSide v.structure l r) (copying_by v w))

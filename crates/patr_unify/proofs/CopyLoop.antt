@@ -18,14 +18,14 @@ use Rattle.patr_scratch.specs.declared.Visit.TheVariants as visit
 use Rattle.patr_scratch.specs.Contents.{Contents}
 use Rattle.patr_unify.specs.declared.draft.Draft.{Draft}
 use Rattle.patr_unify.specs.declared.cursor.Cursor.{Cursor}
-use Rattle.patr_unify.specs.Copying.{HasFinished, HasGoneBack, HasGoneOn, MarkFits, copying_by, HasRoomToEnter, IsEndRef, IsMade}
+use Rattle.patr_unify.specs.Copying.{IsWorked, HasFinished, HasGoneBack, HasGoneOn, MarkFits, copying_by, HasRoomToEnter, IsEndRef, IsMade}
 use Rattle.patr_unify.specs.Deciding.{IsEndOfLeft, IsSettledFor, marks_by}
 use Rattle.patr_unify.specs.Merging.{both}
 use Rattle.patr_unify.specs.Reading.{key, forward_of}
 use Rattle.patr_unify.specs.Walking.{IsVisited, end_value, visit_of, ArePaused, IsFoundAt, IsTakenFrom, VisitsHeld, cursors_of, stack_of}
 use Rattle.patr_unify.proofs.Keys.{node_one}
 use Rattle.patr_unify.proofs.Outcomes.{key_below}
-use Rattle.patr_unify.proofs.Worked.{HasCopied, IsWorked, marked_keeps, still_worked, worked_end}
+use Rattle.patr_unify.proofs.Worked.{HasCopied, marked_keeps, still_worked, worked_end}
 use Rattle.std.proofs.lemmas.List.{length-map}
 use Rattle.patr_lists.proofs.Totals.{total_change, upto_once, upto_in, total_ext}
 use Rattle.patr_lists.specs.Members.{IsIn}

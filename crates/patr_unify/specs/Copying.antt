@@ -28,7 +28,7 @@ use Rattle.patr_unify.specs.Merging.{both}
 use Rattle.patr_unify.specs.declared.draft.Draft.{Draft}
 use Rattle.patr_scratch.specs.declared.Place.{Place}
 use Rattle.patr_unify.specs.declared.cursor.Cursor.{Cursor}
-use Rattle.patr_unify.specs.Walking.{IsFoundAt, IsOther, IsPaused, IsPutOn, IsTakenFrom, IsVisited, end_value, first, visit_of}
+use Rattle.patr_unify.specs.Walking.{IsFoundAt, IsOther, IsPaused, IsPutOn, IsTakenFrom, IsVisited, bare, end_value, first, visit_of}
 
 -- the right side's node at a place may stay there: the left side's node there has neither a forward nor a visit
 abbrev pub stays_free : Option Value → Visit → Bool
@@ -124,17 +124,24 @@ pub record IsNodeOf (v : Shown) (w : Contents) (size : ℕ) (es : Arcs) (rest : 
   pub below : AllBelow size fs
   pub old : AllOldHeld v fs
 
--- one place's copy is marked, and no other one
-pub record IsCopyMarked (v : Shown) (w : Contents) (t : Contents) (k : ℕ) (d : Copied) : Type 0 where
+-- forwards and added arcs are the same
+pub record SameArcs (w : Contents) (t : Contents) : Type 0 where
   pub places : length t.places ≡ length w.places
-  pub arcs : t.arcs ≡ w.arcs
-  pub arc_room : t.arc_room ≡ w.arc_room
-  pub pairs : t.pairs ≡ w.pairs
   pub pair_room : t.pair_room ≡ w.pair_room
-  pub visits : t.visits ≡ w.visits
   pub visit_room : t.visit_room ≡ w.visit_room
   pub forward : (j : ℕ) → (marks_in t j).forward ≡ (marks_in w j).forward
   pub added : (j : ℕ) → (marks_in t j).added ≡ (marks_in w j).added
+
+-- what stays while a copy is made
+abbrev pub IsWorked : Contents → Contents → Type 0
+IsWorked w t = SameArcs (bare w) (bare t)
+
+-- one place's copy is marked, and no other one
+pub record IsCopyMarked (v : Shown) (w : Contents) (t : Contents) (k : ℕ) (d : Copied) : Type 0 where
+  pub still : IsWorked w t
+  pub arc_room : t.arc_room ≡ w.arc_room
+  pub pairs : t.pairs ≡ w.pairs
+  pub visits : t.visits ≡ w.visits
   pub visit : (j : ℕ) → (marks_in t j).visit ≡ (marks_in w j).visit
   pub here : copied_of v t k ≡ Some d
   pub others : (j : ℕ) → j ≢ k → copied_of v t j ≡ copied_of v w j
