@@ -1,4 +1,4 @@
-use Rattle.std.proofs.Common.{◌≡◌, ◌*◌, [], ◌∷◌, ◌++◌, ◌∙◌, List, sym, ap, subst}
+use Rattle.std.proofs.Common.{◌≡◌, ◌*◌, [], ◌∷◌, ◌++◌, ◌∙◌, List, sym, ap, subst, arith}
 use Rattle.patr_arena.specs.declared.value.Value.{Value}
 use Rattle.patr_arena.specs.Shown.{value_of}
 use Rattle.patr_arena.proofs.Maps.{nothing_waits}
@@ -19,11 +19,10 @@ loop-value-init g c =
       room = subst (KeepsRoom c.args.scratch.now) (sym c.begin.ensures) (begun_keeps c.args.scratch.now);
     }
 
-pub look_at-requires-clause-value : goal.look_at-requires-clause-value
-look_at-requires-clause-value g c = (values_held_pop (g.N.Nodes.shown c.args.nodes.now) c.pop.new.self.items c.in-Some.value (subst (ValuesHeld (g.N.Nodes.shown c.args.nodes.now)) c.in-Some.ensures.items c.loop-value.invariant.held)).1
-
-pub look_at-requires-clause-waiting : goal.look_at-requires-clause-waiting
-look_at-requires-clause-waiting g c = (values_held_pop (g.N.Nodes.shown c.args.nodes.now) c.pop.new.self.items c.in-Some.value (subst (ValuesHeld (g.N.Nodes.shown c.args.nodes.now)) c.in-Some.ensures.items c.loop-value.invariant.held)).0
+pub look_at-requires : goal.look_at-requires
+look_at-requires g c =
+    let held = values_held_pop (g.N.Nodes.shown c.args.nodes.now) c.pop.new.self.items c.in-Some.value (subst (ValuesHeld (g.N.Nodes.shown c.args.nodes.now)) c.in-Some.ensures.items c.loop-value.invariant.held) in
+    record { value = held.1; waiting = held.0; table = omega (arith, c.requires.table, c.loop-value.invariant.room.for_places) }
 
 pub returns-clause-counts : goal.returns-clause-counts
 returns-clause-counts g c =
