@@ -1,5 +1,5 @@
 -- What an arena shows at an address.
-use Rattle.std.proofs.Common.{◌≡◌, ℕ, ◌-◌, ◌<◌, ◌≤◌, length, arith}
+use Rattle.std.proofs.Common.{◌≡◌, ℕ, ◌-◌, ◌<◌, ◌≤◌, arith}
 use Rattle.patr_arena.specs.declared.plain.PlainArena.{PlainArena}
 use Rattle.patr_arena.specs.declared.sentence.SentenceArena.{SentenceArena}
 use Rattle.patr_arena.specs.declared.value.Addr.{Addr}

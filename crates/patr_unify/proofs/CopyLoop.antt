@@ -24,10 +24,8 @@ use Rattle.patr_unify.specs.Merging.{both}
 use Rattle.patr_unify.specs.Reading.{key, forward_of}
 use Rattle.patr_unify.specs.Walking.{IsVisited, end_value, visit_of, ArePaused, IsFoundAt, IsTakenFrom, VisitsHeld, cursors_of, stack_of}
 use Rattle.patr_unify.proofs.Keys.{node_one}
-use Rattle.patr_unify.proofs.Outcomes.{key_below}
 use Rattle.patr_unify.proofs.Worked.{HasCopied, marked_keeps, still_worked, worked_end}
 use Rattle.std.proofs.lemmas.List.{length-map}
-use Rattle.patr_lists.proofs.Totals.{total_change, upto_once, upto_in, total_ext}
 use Rattle.patr_lists.specs.Members.{IsIn}
 use Rattle.patr_lists.specs.Numbers.{total, upto}
 use Rattle.patr_marks.proofs.Settles.{follow_final}
