@@ -159,8 +159,11 @@ extends_on u v w e f = record {
   structure = (e.structure.0 ++ f.structure.0, f.structure.1 ∙ (ap (λ s. s ++ f.structure.0) e.structure.1 ∙ append_assoc u.structure e.structure.0 f.structure.0));
 }
 
+pub extends_same : (v : Shown) → Extends v v
+extends_same v = record { sizes = ([], sym (append-nil v.sizes)); structure = ([], sym (append-nil v.structure)) }
+
 pub blocks_extend : (v : Shown) (blocks : List (List (List Feature))) → Extends v (with_blocks v blocks)
-blocks_extend v [] = record { sizes = ([], sym (append-nil v.sizes)); structure = ([], sym (append-nil v.structure)) }
+blocks_extend v [] = extends_same v
 blocks_extend v (nodes ∷ blocks) =
     extends_on v (with_block v nodes) (with_blocks (with_block v nodes) blocks)
     (record { sizes = (length nodes ∷ [], refl); structure = (map (arcs_from v (length v.sizes)) nodes, refl) })

@@ -1,5 +1,5 @@
 //! A block of nodes.
-ghost use Rattle.std.specs.Prelude.{◌≡◌, ◌<◌, ◌-◌, ◌^◌, [], ◌∷◌, ◌++◌, length, slice_index_or, IfOk, OnErr};
+ghost use Rattle.std.specs.Prelude.{◌≡◌, ◌<◌, ◌≤◌, ◌-◌, ◌^◌, [], ◌∷◌, ◌++◌, length, slice_index_or, slice_range, IfOk, OnErr};
 ghost use Rattle.std.specs.List.Sorted.{IsStrictlyIncreasing};
 ghost use Rattle.patr_arena.specs.Blocks.{AllBelow, IsBlock, attributes};
 ghost use Rattle.patr_arena.specs.Cuts.{begin};
@@ -75,8 +75,16 @@ impl Block {
     {
         let start = start_of(&self.ends, offset as usize);
         let end = self.ends[offset as usize];
-        &self.features[start..end]
+        between(&self.features, start, end)
     }
+}
+
+/// The arcs from one place on and before another.
+fn between(features: &[Feature], start: usize, end: usize) -> &[Feature]
+    requires { start ≤ end × end ≤ length features.now }
+    ensures { result.now ≡ slice_range features.now start end }
+{
+    &features[start..end]
 }
 
 /// Where the arcs of the node at this offset start, by the ends of all nodes' arcs.

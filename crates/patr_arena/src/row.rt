@@ -74,6 +74,13 @@ impl BlockRow {
         Ok(number)
     }
 
+    /// How many blocks stand before the row.
+    pub(crate) fn blocks_before(&self) -> u32
+        ensures { result ≡ self.now.first_block }
+    {
+        self.first_block
+    }
+
     /// How many blocks there are, those before the row counted.
     pub(crate) fn blocks(&self) -> u32
         ensures { result ≡ blocks_of self.now }

@@ -55,7 +55,7 @@ impl<'a> Nodes for SentenceArena<'a> {
     ghost shown = { sentence_of };
 
     fn arcs(&self, at: Addr) -> &[Feature] {
-        let own = self.base.blocks();
+        let own = self.row.blocks_before();
         if at.block < own {
             self.base.arcs(at)
         } else {
@@ -68,7 +68,7 @@ impl<'a> Nodes for SentenceArena<'a> {
     }
 
     fn number(&self, at: Addr) -> u64 {
-        let own = self.base.blocks();
+        let own = self.row.blocks_before();
         if at.block < own {
             self.base.number(at)
         } else {

@@ -30,12 +30,12 @@ use Rattle.patr_scratch.specs.declared.Copied.TheVariants as copied
 use Rattle.patr_scratch.specs.declared.Place.{Place}
 use Rattle.patr_scratch.specs.declared.Visit.TheVariants as visit
 use Rattle.patr_scratch.specs.Contents.{Contents}
-use Rattle.patr_unify.specs.Copying.{Fits, HasComeTo, HasRoomToEnter, IsCopiedTo, IsCopyMarked, IsEndRef, IsKeptOrNot, IsNodeOf, MarkFits, copied_of, copying_by, free_of, made_of, new_nodes, stays_free}
+use Rattle.patr_unify.specs.Copying.{IsWorked, Fits, HasComeTo, HasRoomToEnter, IsCopiedTo, IsCopyMarked, IsEndRef, IsKeptOrNot, IsNodeOf, MarkFits, copied_of, copying_by, free_of, made_of, new_nodes, stays_free}
 use Rattle.patr_unify.specs.Deciding.{IsEndOfLeft, IsSettledFor}
 use Rattle.patr_unify.specs.Merging.{both}
 use Rattle.patr_unify.specs.Reading.{added_of, forward_of, key, marks_in, slot_of}
 use Rattle.patr_unify.specs.Walking.{HasVisit, IsFoundAt, IsOther, end_value, visit_of}
-use Rattle.patr_unify.proofs.Worked.{HasCopied, IsFalling, IsWorked, arcs_longer, base_arcs, base_key, copied_more, falling_once, left_or, mark_more, marked_keeps, new_place, old_from, old_to, ref_value, still_worked, worked_added, worked_both, worked_end, worked_forward, worked_then}
+use Rattle.patr_unify.proofs.Worked.{HasCopied, IsFalling, arcs_longer, base_arcs, base_key, copied_more, falling_once, left_or, mark_more, marked_keeps, new_place, old_from, old_to, ref_value, still_worked, worked_added, worked_both, worked_end, worked_forward, worked_then}
 
 -- one end is copied
 module _ (v : Shown) (s : IsShown v) (w t u : Contents) (l : ℕ) (r : Value) (p : List ℕ) (set : IsSettledFor v w l p r) (fits : marks_settled.Fits (IsSide v.structure l r) (copying_by v w))
@@ -299,7 +299,7 @@ module _ (v : Shown) (s : IsShown v) (w t u : Contents) (l : ℕ) (r : Value) (p
         same a b e = cc
 
     -- it gets a new node
-    pub renewed : IsKeptOrNot v t (key v top) false → (fs : List Feature) → IsNodeOf v t (length block) (both v t (key v top)) fs → IsCopyMarked v t u (key v top) (copied.New (length block)) → (more_nodes more_arcs : ℕ)
+    pub renewed : IsKeptOrNot v t (key v top) false → (fs : List Feature) → IsNodeOf v t (length block) (both v t (key v top)) [] fs → IsCopyMarked v t u (key v top) (copied.New (length block)) → (more_nodes more_arcs : ℕ)
         → more_nodes ≡ nodes + 1 → more_arcs ≡ arcs + length fs → HasCopied v w u l r (block ++ fs ∷ []) more_nodes more_arcs rest
     renewed k fs node m more_nodes more_arcs en ea =
         let d = copied.New (length block) in
@@ -330,16 +330,16 @@ module _ (v : Shown) (s : IsShown v) (w t u : Contents) (l : ℕ) (r : Value) (p
         (subst (λ N. IsCopy P y (K ∷ ks) (record { value = value; new = N })) (sym is_new) is_copy) (record { kept = spares.kept; from_end = from_new fs spares })
         (ap Node (new_place v s (length block) ∙ ap (λ q. n + q) (sym mapped)), (omega (arith, size), tt)) (old_push v block fs has.old node.old) more_nodes more_arcs en (omega (arith, ea, was, first, others))
       where
-        each_arc : (fs : List Feature) → IsNodeOf v t (length block) (both v t (key v top)) fs → (a : ℕ) (z : Value) → Has (both v w (key v top)) a z
+        each_arc : (fs : List Feature) → IsNodeOf v t (length block) (both v t (key v top)) [] fs → (a : ℕ) (z : Value) → Has (both v w (key v top)) a z
             → (q : Value) × Has (both v w (key v top)) a q × (along (arcs_from v (length v.sizes) fs) a ≡ Some (through has.value (end_value v w q)))
         each_arc fs node a z h =
-            let found = node.each a z (subst (λ us. Has us a z) (sym (worked_both v w t has.still K)) h) in
+            let found : (q : Ref) × (feature_to fs a ≡ Some q) = elim (node.each a z (subst (λ us. Has us a z) (sym (worked_both v w t has.still K)) h)) [ inl none ↦ absurd none | inr m ↦ m ] in
             let made = node.only a found.0 found.1 in
             let there = subst (λ us. Has us a made.0) (worked_both v w t has.still K) made.1 in
             let is = end_made a made.0 found.0 there made.2 in
             (made.0, there, along_features v (length v.sizes) fs a ∙ (ap (led_to v (length v.sizes)) found.1 ∙ ap (λ q. Some q) is.0))
 
-        only_arc : (fs : List Feature) → IsNodeOf v t (length block) (both v t (key v top)) fs → (a : ℕ) (z : Value) → along (arcs_from v (length v.sizes) fs) a ≡ Some z
+        only_arc : (fs : List Feature) → IsNodeOf v t (length block) (both v t (key v top)) [] fs → (a : ℕ) (z : Value) → along (arcs_from v (length v.sizes) fs) a ≡ Some z
             → (q : Value) × Has (both v w (key v top)) a q × (z ≡ through has.value (end_value v w q))
         only_arc fs node a z e =
             let led = led_some (feature_to fs a) z (sym (along_features v (length v.sizes) fs a) ∙ e) in

@@ -18,16 +18,14 @@ use Rattle.patr_scratch.specs.declared.Visit.TheVariants as visit
 use Rattle.patr_scratch.specs.Contents.{Contents}
 use Rattle.patr_unify.specs.declared.draft.Draft.{Draft}
 use Rattle.patr_unify.specs.declared.cursor.Cursor.{Cursor}
-use Rattle.patr_unify.specs.Copying.{HasFinished, HasGoneBack, HasGoneOn, MarkFits, copying_by, HasRoomToEnter, IsEndRef, IsMade}
+use Rattle.patr_unify.specs.Copying.{IsWorked, HasFinished, HasGoneBack, HasGoneOn, MarkFits, copying_by, HasRoomToEnter, IsEndRef, IsMade}
 use Rattle.patr_unify.specs.Deciding.{IsEndOfLeft, IsSettledFor, marks_by}
 use Rattle.patr_unify.specs.Merging.{both}
 use Rattle.patr_unify.specs.Reading.{key, forward_of}
 use Rattle.patr_unify.specs.Walking.{IsVisited, end_value, visit_of, ArePaused, IsFoundAt, IsTakenFrom, VisitsHeld, cursors_of, stack_of}
 use Rattle.patr_unify.proofs.Keys.{node_one}
-use Rattle.patr_unify.proofs.Outcomes.{key_below}
-use Rattle.patr_unify.proofs.Worked.{HasCopied, IsWorked, marked_keeps, still_worked, worked_end}
+use Rattle.patr_unify.proofs.Worked.{HasCopied, marked_keeps, still_worked, worked_end}
 use Rattle.std.proofs.lemmas.List.{length-map}
-use Rattle.patr_lists.proofs.Totals.{total_change, upto_once, upto_in, total_ext}
 use Rattle.patr_lists.specs.Members.{IsIn}
 use Rattle.patr_lists.specs.Numbers.{total, upto}
 use Rattle.patr_marks.proofs.Settles.{follow_final}
@@ -39,7 +37,7 @@ use Rattle.patr_unify.proofs.Making.{made}
 use Rattle.patr_unify.proofs.Reaching.{copy_fits, image_falls, numbered, reached_is_end}
 use Rattle.patr_unify.proofs.Edges.{reach_edges}
 use Rattle.patr_unify.proofs.Pauses.{IsOnward, onward_visited, pairs_length, stack_length, stack_popped, stack_pushed, went_back, went_down}
-use Rattle.patr_unify.proofs.Walked.{has_some, held_pushed}
+use Rattle.patr_unify.proofs.Walked.{back_falls, down_falls, has_some, held_pushed}
 
 -- where the copy begins
 pub copied_starts : (v : Shown) (w t : Contents) (l : ℕ) (r : Value) (p : List ℕ) (set : IsSettledFor v w l p r) → marks_settled.Fits (IsSide v.structure l r) (copying_by v w) → (rank : ℕ → ℕ)
@@ -113,23 +111,8 @@ pub going_falls : (v : Shown) → IsShown v → (t u x : Contents) (top : Place)
     → total (unentered_of v x) (upto (2 * length v.structure)) + length x.visits < total (unentered_of v t) (upto (2 * length v.structure)) + length t.visits
 going_falls v s t u x top old new c e q (inl a) =
     let come = a.0 in
-    let p = come.2 in
-    let all = upto (2 * length v.structure) in
-    let same : total (unentered_of v u) all ≡ total (unentered_of v t) all = ap (λ z. total (unentered_of v z) all) e in
-    let change = total_change (unentered_of v x) (unentered_of v u) all (key v p) (upto_once (2 * length v.structure)) (upto_in (2 * length v.structure) (key v p) (key_below v s p come.4.0)) (λ k ne. ap to_enter (come.5.others k ne)) in
-    let was : unentered_of v u (key v p) ≡ 2 = enter_two (visit_of v u (key v p)) come.4.2 in
-    let is : unentered_of v x (key v p) ≡ 0 = ap to_enter come.5.here in
-    let size = ap (length {A = Place}) q ∙ length-append u.visits (top ∷ []) in
-    let pushed = ap (length {A = Place}) come.6 ∙ length-append u.visits (top ∷ p ∷ []) in
-    omega (arith, same, change, was, is, size, pushed)
-going_falls v s t u x top old new c e q (inr a) =
-    let all = upto (2 * length v.structure) in
-    let same : total (unentered_of v u) all ≡ total (unentered_of v t) all = ap (λ z. total (unentered_of v z) all) e in
-    let kept = gone_visits v u x top old new c a in
-    let left : total (unentered_of v x) all ≡ total (unentered_of v u) all = total_ext (unentered_of v x) (unentered_of v u) all (λ k. ap to_enter (kept.0 k)) in
-    let size = ap (length {A = Place}) q ∙ length-append u.visits (top ∷ []) in
-    let stack = ap (length {A = Place}) kept.1 in
-    omega (arith, same, left, size, stack)
+    down_falls to_enter v s t u x top e q come.2 come.4.0 come.5.others (enter_two (visit_of v u (key v come.2)) come.4.2) (ap to_enter come.5.here) come.6
+going_falls v s t u x top old new c e q (inr a) = let kept = gone_visits v u x top old new c a in back_falls to_enter v s t u x top e q (λ k. ap to_enter (kept.0 k)) kept.1
 
 module _ (v : Shown) (s : IsShown v) (w : Contents) (l : ℕ) (p : List ℕ) (r : Value) (hl : l < length v.structure) (set : IsSettledFor v w l p r) where
   end_side : (k : ℕ) → IsEndOfLeft v w l k → IsSide v.structure l r k

@@ -1,10 +1,10 @@
 -- What a value reaches, counted node by node.
-use Rattle.std.proofs.Common.{◌≡◌, ◌≢◌, ℕ, ◌+◌, ◌<◌, ◌⊎◌, inl, inr, Bool, true, false, cond, nat_eq, Some, List, [], ◌∷◌, ◌++◌, length, length-append, drop, get_or, not, refl, sym, ap, ◌∙◌, subst, arith, eqb-true, eq-eqb, ne_eqb, true≢false}
-use Rattle.std.proofs.lemmas.List.{append_assoc, drop_more, length-map, map-append}
-use Rattle.std.specs.HashSet.{HashSet, contains, hash_set_len}
+use Rattle.std.proofs.Common.{◌≡◌, ◌≢◌, ℕ, ◌+◌, ◌*◌, ◌<◌, ◌⊎◌, inl, inr, Bool, true, false, cond, nat_eq, Some, List, [], ◌∷◌, ◌++◌, length, length-append, drop, get_or, refl, sym, ap, ◌∙◌, subst, arith, eqb-true, eq-eqb, ne_eqb, true≢false}
+use Rattle.std.proofs.lemmas.List.{append_assoc, drop_more, get_or-set_other, get_or-set_same, length-map, length-replicate, map-append}
+use Rattle.std.proofs.lemmas.Bool.{cases_eq}
 use Rattle.patr_marks.proofs.Reach.{at_more}
 use Rattle.patr_lists.proofs.Members.{in_cases, in_right, in_left}
-use Rattle.patr_lists.proofs.Totals.{total_change, total_same, upto_once, upto_in}
+use Rattle.patr_lists.proofs.Totals.{total_change, upto_once, upto_in}
 use Rattle.patr_lists.specs.Numbers.{upto}
 use Rattle.patr_lists.specs.Members.{IsIn}
 use Rattle.patr_model.specs.Structure.{Value, Atom, Node, Arcs, Structure, HasDistinct, IsReached, arc, at}
@@ -15,7 +15,12 @@ use Rattle.patr_arena.specs.declared.value.Value as its
 use Rattle.patr_arena.specs.declared.value.Feature.{Feature}
 use Rattle.patr_arena.specs.Shown.{Shown, IsShown, ValueIsHeld, arcs_from, ref_of, value_of}
 use Rattle.patr_unify.specs.Deciding.{IsReachOf}
-use Rattle.patr_unify.specs.Counting.{IsLookedAt, IsNoted, IsReaching, ValuesHeld, targets, unseen_arcs, values}
+use Rattle.patr_scratch.specs.declared.Side.TheVariants as side
+use Rattle.patr_scratch.specs.declared.Visit.{Visit}
+use Rattle.patr_scratch.specs.declared.Visit.TheVariants as visit
+use Rattle.patr_scratch.specs.Contents.{Contents, HasPlace, KeepsRoom, PlaceMarks, begun, marks, put, unmarked}
+use Rattle.patr_unify.specs.declared.reach.Reach.{Reach}
+use Rattle.patr_unify.specs.Counting.{IsCounting, IsLookedAt, IsNoted, IsReaching, ValuesHeld, is_seen, seen_in, targets, values}
 
 target_waits : (es : Arcs) (a : ℕ) (y : Value) → Has es a y → IsIn (targets es) y
 target_waits [] a y h = absurd h
@@ -114,83 +119,110 @@ target_pushed v b fs i d ws us x all inside pushed leads e =
     let next : targets (arcs_from v b (drop i fs)) ≡ ref_of v b (get_or fs i d).to ∷ rest = ap (λ (gs : List Feature). targets (arcs_from v b gs)) (drop_more fs i d inside) in
     ap (λ zs. zs ++ rest) more ∙ (append_assoc (values v ws) (value_of v x ∷ []) rest ∙ (ap (λ z. values v ws ++ z ∷ rest) leads ∙ (ap (λ zs. values v ws ++ zs) (sym next) ∙ e)))
 
-module _ {Z : Type 0} where
-  -- an atom, or a node whose number the set has
-  abbrev pub IsSeen : HashSet ℕ Z → Value → Type 0
-  IsSeen seen (Atom c) = Unit {0}
-  IsSeen seen (Node k) = contains nat_eq seen k ≡ true
+-- nothing was seen, and the first value waits
+pub counting_starts : (v : Shown) (seen : ℕ → Bool) (x : its.Value) → ((k : ℕ) → seen k ≡ false) → IsCounting v seen (value_of v x) (x ∷ []) (record { nodes = 0; arcs = 0 })
+counting_starts v seen x none = record {
+  list = [];
+  reaching = record { once = tt; reached = λ k h. absurd h; waits = λ y h. elim h [ inl e ↦ ([], ap (λ z. Some z) e) | inr n ↦ absurd n ]; first = noted (value_of v x); closed = λ k a y h e. absurd h };
+  in_list = λ k e. absurd (true≢false (sym e ∙ none k));
+  in_set = λ k h. absurd h;
+  nodes_are = refl;
+  arcs_are = refl;
+}
+  where
+    noted : (y : Value) → IsNoted [] (y ∷ []) y
+    noted (Atom c) = tt
+    noted (Node k) = inr (inl refl)
 
-  pub looked_known : (v : Shown) (seen now : HashSet ℕ Z) (value : its.Value) (ws : List its.Value) → IsSeen seen (value_of v value) → ((k : ℕ) → contains nat_eq now k ≡ contains nat_eq seen k) → hash_set_len now ≡ hash_set_len seen → ValuesHeld v ws
-      → IsLookedAt v seen now value ws ws 0
-  looked_known v seen now value ws known same size held = record {
-    held = held;
-    counts = λ x before i. record {
-      list = i.list;
-      reaching = reaching_dropped v.structure x (value_of v value) i.list (values v ws) (noted (value_of v value) i.list i.in_list known) (subst (λ us. IsReaching v.structure x i.list us) (map-append (value_of v) ws (value ∷ [])) i.reaching);
-      in_list = λ k e. i.in_list k (sym (same k) ∙ e);
-      in_set = λ k h. same k ∙ i.in_set k h;
-      nodes_are = i.nodes_are ∙ sym size;
-      arcs_are = (let e = i.arcs_are in omega (arith, e));
-    };
-    fewer =
-        let e : unseen_arcs v now ≡ unseen_arcs v seen = total_same (λ k. cond (contains nat_eq now k) 0 (length (own v.structure k))) (λ k. cond (contains nat_eq seen k) 0 (length (own v.structure k))) (upto (length v.structure))
-        (λ k h. ap (λ b. cond b 0 (length (own v.structure k))) (same k)) in
-        omega (arith, e);
-  }
-    where
-      noted : (y : Value) (ks : List ℕ) → ((k : ℕ) → contains nat_eq seen k ≡ true → IsIn ks k) → IsSeen seen y → IsNoted ks [] y
-      noted (Atom c) ks f h = tt
-      noted (Node k) ks f h = inl (f k h)
+-- an atom, or a node that was seen
+abbrev pub IsSeen : (ℕ → Bool) → Value → Type 0
+IsSeen seen (Atom c) = Unit {0}
+IsSeen seen (Node k) = seen k ≡ true
 
-  pub looked_new : (v : Shown) → IsShown v → (seen now : HashSet ℕ Z) (value : its.Value) (n : ℕ) (ws us : List its.Value) → value_of v value ≡ Node n → n < length v.structure → contains nat_eq seen n ≡ false
-      → ((k : ℕ) → contains nat_eq now k ≡ cond (nat_eq n k) true (contains nat_eq seen k)) → hash_set_len now ≡ hash_set_len seen + 1 → values v us ≡ values v ws ++ targets (own v.structure n) → ValuesHeld v us
-      → IsLookedAt v seen now value ws us (length (own v.structure n))
-  looked_new v s seen now value n ws us is_node inside new updates size pushed held = record {
-    held = held;
-    counts = λ x before i. record {
-      list = n ∷ i.list;
-      reaching = subst (λ ys. IsReaching v.structure x (n ∷ i.list) ys) (sym pushed)
-          (reaching_new v.structure x n i.list (values v ws) (s.structure.distinct n) (λ h. let e = i.in_set n h in cc)
-          (subst (λ ys. IsReaching v.structure x i.list ys) (map-append (value_of v) ws (value ∷ []) ∙ ap (λ z. values v ws ++ z ∷ []) is_node) i.reaching));
-      in_list = λ k e. listed i.list i.in_list k (nat_eq n k) refl (sym (updates k) ∙ e);
-      in_set = λ k h. updates k ∙ kept i.list i.in_set k h;
-      nodes_are = (let e = i.nodes_are in omega (arith, e, size));
-      arcs_are = (let e = i.arcs_are in omega (arith, e));
-    };
-    fewer =
-        let f : ℕ → ℕ = λ k. cond (contains nat_eq now k) 0 (length (own v.structure k)) in
-        let g : ℕ → ℕ = λ k. cond (contains nat_eq seen k) 0 (length (own v.structure k)) in
-        let e = total_change f g (upto (length v.structure)) n (upto_once (length v.structure)) (upto_in (length v.structure) n inside) (λ k ne. ap (λ b. cond b 0 (length (own v.structure k))) (other k ne)) in
-        let here : f n ≡ 0 = ap (λ b. cond b 0 (length (own v.structure n))) (updates n ∙ ap (λ b. cond b true (contains nat_eq seen n)) (eq-eqb n n refl)) in
-        let was : g n ≡ length (own v.structure n) = ap (λ b. cond b 0 (length (own v.structure n))) new in
-        let long : length us ≡ length (values v us) = sym (length-map us (value_of v)) in
-        let short : length (values v ws) ≡ length ws = length-map ws (value_of v) in
-        let both = ap length pushed in
-        let parts = length-append (values v ws) (targets (own v.structure n)) in
-        let many : length (targets (own v.structure n)) ≡ length (own v.structure n) = length-map (own v.structure n) (λ e. e.to) in
-        omega (arith, e, here, was, long, short, both, parts, many);
-  }
-    where
-      other : (k : ℕ) → k ≢ n → contains nat_eq now k ≡ contains nat_eq seen k
-      other k ne = updates k ∙ ap (λ b. cond b true (contains nat_eq seen k)) (ne_eqb n k (λ e. ne (sym e)))
+pub looked_known : (v : Shown) (seen : ℕ → Bool) (value : its.Value) (ws : List its.Value) (reach : Reach) → IsSeen seen (value_of v value) → ValuesHeld v ws → IsLookedAt v seen seen value ws ws reach reach
+looked_known v seen value ws reach known held = record {
+  held = held;
+  counts = λ x i. record {
+    list = i.list;
+    reaching = reaching_dropped v.structure x (value_of v value) i.list (values v ws) (noted (value_of v value) i.list i.in_list known) (subst (λ us. IsReaching v.structure x i.list us) (map-append (value_of v) ws (value ∷ [])) i.reaching);
+    in_list = i.in_list;
+    in_set = i.in_set;
+    nodes_are = i.nodes_are;
+    arcs_are = i.arcs_are;
+  };
+  fewer = omega arith;
+}
+  where
+    noted : (y : Value) (ks : List ℕ) → ((k : ℕ) → seen k ≡ true → IsIn ks k) → IsSeen seen y → IsNoted ks [] y
+    noted (Atom c) ks f h = tt
+    noted (Node k) ks f h = inl (f k h)
 
-      listed : (ks : List ℕ) → ((k : ℕ) → contains nat_eq seen k ≡ true → IsIn ks k) → (k : ℕ) (b : Bool) → nat_eq n k ≡ b → cond b true (contains nat_eq seen k) ≡ true → IsIn (n ∷ ks) k
-      listed ks f k true e h = inl (eqb-true n k e)
-      listed ks f k false e h = inr (f k h)
+pub looked_new : (v : Shown) → IsShown v → (seen now : ℕ → Bool) (value : its.Value) (n : ℕ) (ws us : List its.Value) (old new : Reach) → value_of v value ≡ Node n → n < length v.structure → seen n ≡ false
+    → ((k : ℕ) → now k ≡ cond (nat_eq n k) true (seen k)) → new.nodes ≡ old.nodes + 1 → new.arcs ≡ old.arcs + length (own v.structure n) → values v us ≡ values v ws ++ targets (own v.structure n) → ValuesHeld v us
+    → IsLookedAt v seen now value ws us old new
+looked_new v s seen now value n ws us old new is_node inside unseen updates size more pushed held = record {
+  held = held;
+  counts = λ x i. record {
+    list = n ∷ i.list;
+    reaching = subst (λ ys. IsReaching v.structure x (n ∷ i.list) ys) (sym pushed)
+        (reaching_new v.structure x n i.list (values v ws) (s.structure.distinct n) (λ h. let e = i.in_set n h in cc)
+        (subst (λ ys. IsReaching v.structure x i.list ys) (map-append (value_of v) ws (value ∷ []) ∙ ap (λ z. values v ws ++ z ∷ []) is_node) i.reaching));
+    in_list = λ k e. listed i.list i.in_list k (nat_eq n k) refl (sym (updates k) ∙ e);
+    in_set = λ k h. updates k ∙ kept i.list i.in_set k h;
+    nodes_are = (let e = i.nodes_are in omega (arith, e, size));
+    arcs_are = (let e = i.arcs_are in omega (arith, e, more));
+  };
+  fewer =
+      let f : ℕ → ℕ = λ k. cond (now k) 0 (length (own v.structure k)) in
+      let g : ℕ → ℕ = λ k. cond (seen k) 0 (length (own v.structure k)) in
+      let e = total_change f g (upto (length v.structure)) n (upto_once (length v.structure)) (upto_in (length v.structure) n inside) (λ k ne. ap (λ b. cond b 0 (length (own v.structure k))) (other k ne)) in
+      let here : f n ≡ 0 = ap (λ b. cond b 0 (length (own v.structure n))) (updates n ∙ ap (λ b. cond b true (seen n)) (eq-eqb n n refl)) in
+      let was : g n ≡ length (own v.structure n) = ap (λ b. cond b 0 (length (own v.structure n))) unseen in
+      let long : length us ≡ length (values v us) = sym (length-map us (value_of v)) in
+      let short : length (values v ws) ≡ length ws = length-map ws (value_of v) in
+      let both = ap length pushed in
+      let parts = length-append (values v ws) (targets (own v.structure n)) in
+      let many : length (targets (own v.structure n)) ≡ length (own v.structure n) = length-map (own v.structure n) (λ e. e.to) in
+      omega (arith, e, here, was, long, short, both, parts, many);
+}
+  where
+    other : (k : ℕ) → k ≢ n → now k ≡ seen k
+    other k ne = updates k ∙ ap (λ b. cond b true (seen k)) (ne_eqb n k (λ e. ne (sym e)))
 
-      kept : (ks : List ℕ) → ((k : ℕ) → IsIn ks k → contains nat_eq seen k ≡ true) → (k : ℕ) → IsIn (n ∷ ks) k → cond (nat_eq n k) true (contains nat_eq seen k) ≡ true
-      kept ks f k (inl e) = ap (λ b. cond b true (contains nat_eq seen k)) (eq-eqb n k e)
-      kept ks f k (inr h) = either (nat_eq n k) (f k h)
-        where
-          either : (b : Bool) → contains nat_eq seen k ≡ true → cond b true (contains nat_eq seen k) ≡ true
-          either true e = refl
-          either false e = e
+    listed : (ks : List ℕ) → ((k : ℕ) → seen k ≡ true → IsIn ks k) → (k : ℕ) (b : Bool) → nat_eq n k ≡ b → cond b true (seen k) ≡ true → IsIn (n ∷ ks) k
+    listed ks f k true e h = inl (eqb-true n k e)
+    listed ks f k false e h = inr (f k h)
 
--- what an insert's answer says of the set before
-pub was_in : (b t : Bool) → b ≡ false → b ≡ not t → t ≡ true
-was_in b true e h = refl
-was_in b false e h = absurd (true≢false (sym h ∙ e))
+    kept : (ks : List ℕ) → ((k : ℕ) → IsIn ks k → seen k ≡ true) → (k : ℕ) → IsIn (n ∷ ks) k → cond (nat_eq n k) true (seen k) ≡ true
+    kept ks f k (inl e) = ap (λ b. cond b true (seen k)) (eq-eqb n k e)
+    kept ks f k (inr h) = either (nat_eq n k) (f k h)
+      where
+        either : (b : Bool) → seen k ≡ true → cond b true (seen k) ≡ true
+        either true e = refl
+        either false e = e
 
-pub was_not_in : (b t : Bool) → b ≡ true → b ≡ not t → t ≡ false
-was_not_in b true e h = absurd (true≢false (sym e ∙ h))
-was_not_in b false e h = refl
+-- a place of the left side was visited
+abbrev pub visited_at : Contents → ℕ → Contents
+visited_at w n = put w side.Left n (record (marks w side.Left n) { visit = visit.Left })
+
+-- what was seen then
+pub seen_put : (w : Contents) (n : ℕ) → HasPlace w side.Left n → (k : ℕ) → seen_in (visited_at w n) k ≡ cond (nat_eq n k) true (seen_in w k)
+seen_put w n h k =
+    let m : PlaceMarks = record (marks w side.Left n) { visit = visit.Left } in
+    elim (cases_eq n k) [
+      | inl e ↦ ap (λ (u : PlaceMarks). is_seen u.visit) (ap (λ j. marks (visited_at w n) side.Left j) (sym e) ∙ get_or-set_same w.places (2 * n) m unmarked h) ∙ sym (ap (λ b. cond b true (seen_in w k)) (eq-eqb n k e))
+      | inr ne ↦ ap (λ (u : PlaceMarks). is_seen u.visit) (get_or-set_other w.places (2 * n) (2 * k) m unmarked (λ q. ne (half n k q))) ∙ sym (ap (λ b. cond b true (seen_in w k)) (ne_eqb n k ne))
+    ]
+  where
+    half : (n k : ℕ) → 2 * k ≡ 2 * n → n ≡ k
+    half n k q = omega (arith, q)
+
+-- a visit is one that was seen, or not
+pub seen_visit : (a : Visit) → (a ≢ visit.Unseen) → is_seen a ≡ true
+seen_visit visit.Unseen n = absurd (n refl)
+seen_visit visit.Entered n = refl
+seen_visit visit.Left n = refl
+
+-- a new generation keeps the room
+pub begun_keeps : (w : Contents) → KeepsRoom w (begun w)
+begun_keeps w = record { for_places = (let size = length-replicate (length w.places) unmarked in omega (arith, size)); for_visits = omega arith; for_arcs = omega arith; for_pairs = omega arith }

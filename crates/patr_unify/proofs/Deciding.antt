@@ -110,7 +110,7 @@ all_covers v s l r hl ls rs left right = record {
 }
 
 -- after `begin` nothing is marked
-begun_marks : (w : Contents) (j : ℕ) → marks_in (begun w) j ≡ unmarked
+pub begun_marks : (w : Contents) (j : ℕ) → marks_in (begun w) j ≡ unmarked
 begun_marks w j = at (length w.places) j
   where
     at : (n j : ℕ) → get_or (replicate n unmarked) j unmarked ≡ unmarked

@@ -4,24 +4,28 @@ use Rattle.patr_model.specs.Structure.{Value, Node, Arc, Arcs, IsBelow}
 use Rattle.patr_marks.specs.Machine.{has_attribute}
 use Rattle.patr_marks.specs.Settled.{base, covered}
 use Rattle.patr_marks.proofs.Copy.{base_left, base_shift}
-use Rattle.patr_arena.specs.Shown.{Shown, IsShown, IsHeld, number_of}
+use Rattle.patr_arena.specs.Shown.{Shown, IsShown, IsHeld, number_of, ref_of, value_of}
 use Rattle.patr_arena.specs.Blocks.{OldRefIsHeld}
 use Rattle.patr_arena.specs.declared.value.Addr.{Addr}
+use Rattle.patr_arena.specs.declared.value.Feature.{Feature}
 use Rattle.patr_arena.specs.declared.value.Ref.{Ref}
 use Rattle.patr_arena.specs.declared.value.Ref.TheVariants as ref
+use Rattle.patr_arena.specs.declared.value.Value as its
 use Rattle.patr_arena.proofs.Addresses.{address_tells}
 use Rattle.patr_arena.proofs.Showing.{held_below}
 use Rattle.patr_scratch.specs.declared.Copied.{Copied}
 use Rattle.patr_scratch.specs.declared.Place.{Place}
 use Rattle.patr_scratch.specs.declared.Side.{Side}
 use Rattle.patr_scratch.specs.declared.Side.TheVariants as side
+use Rattle.patr_scratch.specs.declared.Target.{Target}
 use Rattle.patr_scratch.specs.declared.Visit.{Visit}
 use Rattle.patr_scratch.specs.declared.Visit.TheVariants as visit
 use Rattle.patr_scratch.specs.Contents.{Contents, Link, PlaceMarks, after, marks}
 use Rattle.patr_unify.specs.Copying.{CopiesFit, Fits, IsEndRef, IsOld, LeadsAsBefore, LeadsElsewhere, MarkFits, copied_of, free_of, ref_to, stays_free}
-use Rattle.patr_unify.specs.Reading.{arcs_at, behind, forward_of, key, marks_in, marks_of, slot_of, value_on}
+use Rattle.patr_unify.specs.Reading.{arcs_at, behind, forward_of, key, marks_in, marks_of, slot_of, target_on, value_at, value_on}
 use Rattle.patr_unify.specs.Walking.{end_value, visit_of}
-use Rattle.patr_unify.proofs.Keys.{key_marks, lt_false, lt_true, node_one}
+use Rattle.patr_unify.proofs.Keys.{key_marks, lt_false, lt_true, node_one, target_value}
+use Rattle.patr_unify.proofs.Takes.{arc_of}
 
 -- the mark that is read
 pub copied_is : (v : Shown) (w : Contents) → IsShown v → (p : Place) (number : ℕ) (o : Option Copied) → IsHeld v p.block p.offset → number ≡ number_of v p.block p.offset → o ≡ (marks w p.side number).copied → o ≡ copied_of v w (key v p)
@@ -53,12 +57,20 @@ pub base_on : (s : Side) (n : ℕ) (y : Value) → IsBelow n y → base n (value
 base_on side.Left n y h = base_left n y h
 base_on side.Right n y h = base_shift n y
 
--- one arc
-pub leads_before : (v : Shown) (w : Contents) (s : Side) (x y : Value) (r : Ref) → IsBelow (length v.structure) y → x ≡ value_on s (length v.structure) y → IsEndRef v w (end_value v w x) r → IsOld v r y → LeadsAsBefore v w x
-leads_before v w s x y r b e i o = (r, i, subst (IsOld v r) (sym (ap (base (length v.structure)) e ∙ base_on s (length v.structure) y b)) o)
+-- an own arc of a place, and the arc to the copy of its end
+module _ (v : Shown) (w : Contents) (p : Place) (f : Feature) (x : its.Value) (t : Target) (r : Ref) (below : IsBelow (length v.structure) (value_of v x)) (is : value_of v x ≡ ref_of v p.block f.to) (on : t ≡ target_on p.side x)
+    (copied : IsEndRef v w (end_value v w (value_at v t)) r) where
+  copy_of : IsEndRef v w (end_value v w (arc_of v p f).to) r
+  copy_of = subst (λ z. IsEndRef v w (end_value v w z) r) (ap (value_at v) on ∙ (target_value v p.side x ∙ ap (value_on p.side (length v.structure)) is)) copied
 
-pub leads_elsewhere : (v : Shown) (w : Contents) (s : Side) (x y : Value) (r : Ref) → IsBelow (length v.structure) y → x ≡ value_on s (length v.structure) y → IsEndRef v w (end_value v w x) r → (IsOld v r y → ⊥) → LeadsElsewhere v w x
-leads_elsewhere v w s x y r b e i o = (r, i, λ q. o (subst (IsOld v r) (ap (base (length v.structure)) e ∙ base_on s (length v.structure) y b) q))
+  led : base (length v.structure) (arc_of v p f).to ≡ value_of v x
+  led = ap (λ y. base (length v.structure) (value_on p.side (length v.structure) y)) (sym is) ∙ base_on p.side (length v.structure) (value_of v x) below
+
+  pub leads_before : IsOld v r (value_of v x) → LeadsAsBefore v w (arc_of v p f).to
+  leads_before o = (r, copy_of, subst (IsOld v r) (sym led) o)
+
+  pub leads_elsewhere : (IsOld v r (value_of v x) → ⊥) → LeadsElsewhere v w (arc_of v p f).to
+  leads_elsewhere o = (r, copy_of, λ q. o (subst (IsOld v r) led q))
 
 -- the next added arc is covered, or not
 pub covered_on : (es fs rest : Arcs) (e : Arc) → covered (e ∷ rest) fs ≡ covered es fs → has_attribute fs e.attribute ≡ true → covered rest fs ≡ covered es fs

@@ -14,7 +14,8 @@ use Rattle.patr_unify.specs.declared.cursor.Cursor.{Cursor}
 use Rattle.patr_unify.specs.declared.cursor.Cursor.TheVariants as cursor
 use Rattle.patr_unify.specs.Reading.{arcs_at, key, marks_of, slot_of}
 use Rattle.patr_unify.specs.Walking.{AreBelow, ArePaused, HasArcAt, HasVisit, IsPaused, IsPutOn, IsTakenFrom, IsVisited, StandsFor, cursor_of, cursors_of, end_value, first, rest_at, stack_of, visit_of}
-use Rattle.patr_unify.proofs.Worked.{IsWorked, still_worked, worked_added, worked_both, worked_end}
+use Rattle.patr_unify.specs.Copying.{IsWorked}
+use Rattle.patr_unify.proofs.Worked.{still_worked, worked_added, worked_both, worked_end}
 
 -- the stack
 pub stack_popped : (v : Shown) (ps : List Place) (p : Place) → stack_of v (ps ++ p ∷ []) ≡ key v p ∷ stack_of v ps

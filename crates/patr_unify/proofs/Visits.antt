@@ -54,15 +54,16 @@ copy_marked v w t p number d s a h e g =
     let has = place_room v w s a p number h e in
     let at : slot_of n (key v p) ≡ slot p.side number = key_slot v s p h ∙ ap (slot p.side) (sym e) in
     subst (λ z. IsCopyMarked v w z (key v p) d) (sym g) (record {
-      places = length-set w.places (slot p.side number) m;
-      arcs = refl;
+      still = record {
+        places = length-set w.places (slot p.side number) m;
+        pair_room = refl;
+        visit_room = refl;
+        forward = field_put (λ (u : PlaceMarks). u.forward) w p.side number m has refl;
+        added = field_put (λ (u : PlaceMarks). u.added) w p.side number m has refl;
+      };
       arc_room = refl;
       pairs = refl;
-      pair_room = refl;
       visits = refl;
-      visit_room = refl;
-      forward = field_put (λ (u : PlaceMarks). u.forward) w p.side number m has refl;
-      added = field_put (λ (u : PlaceMarks). u.added) w p.side number m has refl;
       visit = field_put (λ (u : PlaceMarks). u.visit) w p.side number m has refl;
       here = ap (λ j. (marks_in (put w p.side number m) j).copied) at ∙ ap (λ (u : PlaceMarks). u.copied) (get_or-set_same w.places (slot p.side number) m unmarked has);
       others = λ j ne. ap (λ (u : PlaceMarks). u.copied) (get_or-set_other w.places (slot p.side number) (slot_of n j) m unmarked (λ q. ne (slot_one n j (key v p) (q ∙ sym at))));

@@ -272,27 +272,37 @@ walked_off v w t u l i c h e none empty =
       unseen = λ k m. is_unseen (visit_of v u k) (λ q. m (has.in_order k q)) (λ q. absurd (has.on_stack k q));
     }
 
--- with each turn less is left to visit
+-- with each turn less is left to do, where a place counts by its visit
+module _ (to : Visit → ℕ) (v : Shown) (s : IsShown v) (t u x : Contents) (top : Place) (e : u ≡ record t { visits = u.visits }) (q : t.visits ≡ u.visits ++ top ∷ []) where
+  popped : length t.visits ≡ length u.visits + 1
+  popped = ap (length {A = Place}) q ∙ length-append u.visits (top ∷ [])
+
+  same : total (λ k. to (visit_of v u k)) (upto (2 * length v.structure)) ≡ total (λ k. to (visit_of v t k)) (upto (2 * length v.structure))
+  same = ap (λ z. total (λ k. to (visit_of v z k)) (upto (2 * length v.structure))) e
+
+  -- a place is entered that counted twice
+  pub down_falls : (p : Place) → IsHeld v p.block p.offset → ((k : ℕ) → k ≢ key v p → visit_of v x k ≡ visit_of v u k) → to (visit_of v u (key v p)) ≡ 2 → to (visit_of v x (key v p)) ≡ 0 → x.visits ≡ u.visits ++ top ∷ p ∷ []
+      → total (λ k. to (visit_of v x k)) (upto (2 * length v.structure)) + length x.visits < total (λ k. to (visit_of v t k)) (upto (2 * length v.structure)) + length t.visits
+  down_falls p held others was is pushed =
+      let N = 2 * length v.structure in
+      let change = total_change (λ k. to (visit_of v x k)) (λ k. to (visit_of v u k)) (upto N) (key v p) (upto_once N) (upto_in N (key v p) (key_below v s p held)) (λ k ne. ap to (others k ne)) in
+      let size = ap (length {A = Place}) pushed ∙ length-append u.visits (top ∷ p ∷ []) in
+      omega (arith, same, change, was, is, popped, size)
+
+  -- no place counts otherwise than before
+  pub back_falls : ((k : ℕ) → to (visit_of v x k) ≡ to (visit_of v u k)) → x.visits ≡ u.visits
+      → total (λ k. to (visit_of v x k)) (upto (2 * length v.structure)) + length x.visits < total (λ k. to (visit_of v t k)) (upto (2 * length v.structure)) + length t.visits
+  back_falls left kept =
+      let all = total_ext (λ k. to (visit_of v x k)) (λ k. to (visit_of v u k)) (upto (2 * length v.structure)) left in
+      let size = ap (length {A = Place}) kept in
+      omega (arith, same, all, popped, size)
+
 pub turn_falls : (v : Shown) → IsShown v → (t u x : Contents) (top : Place) → IsHeld v top.block top.offset → visit_of v u (key v top) ≡ visit.Entered → u ≡ record t { visits = u.visits } → t.visits ≡ u.visits ++ top ∷ []
     → (c : Cursor) → HasLeft v u x (key v top) c ⊎ (HasEntered v u x top × (c ≡ first)) → total (unseen_of v x) (upto (2 * length v.structure)) + length x.visits < total (unseen_of v t) (upto (2 * length v.structure)) + length t.visits
-turn_falls v s t u x top held now e q c (inl a) =
-    let all = upto (2 * length v.structure) in
-    let same : total (unseen_of v u) all ≡ total (unseen_of v t) all = ap (λ z. total (unseen_of v z) all) e in
-    let left : total (unseen_of v x) all ≡ total (unseen_of v u) all = total_ext (unseen_of v x) (unseen_of v u) all (λ k. elim (cases_eq k (key v top)) [
-      | inl f ↦ ap (unseen_of v x) f ∙ (ap to_visit a.0.here ∙ (sym (ap to_visit now) ∙ ap (unseen_of v u) (sym f)))
-      | inr ne ↦ ap to_visit (a.0.others k ne)
-    ]) in
-    let size = ap (length {A = Place}) q ∙ length-append u.visits (top ∷ []) in
-    let kept = ap (length {A = Place}) a.1 in
-    omega (arith, same, left, size, kept)
+turn_falls v s t u x top held now e q c (inl a) = back_falls to_visit v s t u x top e q (λ k. elim (cases_eq k (key v top)) [
+  | inl f ↦ ap (unseen_of v x) f ∙ (ap to_visit a.0.here ∙ (sym (ap to_visit now) ∙ ap (unseen_of v u) (sym f)))
+  | inr ne ↦ ap to_visit (a.0.others k ne)
+]) a.1
 turn_falls v s t u x top held now e q c (inr b) =
     let a = b.0 in
-    let p = a.2 in
-    let all = upto (2 * length v.structure) in
-    let same : total (unseen_of v u) all ≡ total (unseen_of v t) all = ap (λ z. total (unseen_of v z) all) e in
-    let change = total_change (unseen_of v x) (unseen_of v u) all (key v p) (upto_once (2 * length v.structure)) (upto_in (2 * length v.structure) (key v p) (key_below v s p a.4.0)) (λ k ne. ap to_visit (a.6.others k ne)) in
-    let was : unseen_of v u (key v p) ≡ 2 = ap to_visit (is_unseen (visit_of v u (key v p)) a.4.2 a.5) in
-    let is : unseen_of v x (key v p) ≡ 0 = ap to_visit a.6.here in
-    let size = ap (length {A = Place}) q ∙ length-append u.visits (top ∷ []) in
-    let pushed = ap (length {A = Place}) a.7 ∙ length-append u.visits (top ∷ p ∷ []) in
-    omega (arith, same, change, was, is, size, pushed)
+    down_falls to_visit v s t u x top e q a.2 a.4.0 a.6.others (ap to_visit (is_unseen (visit_of v u (key v a.2)) a.4.2 a.5)) (ap to_visit a.6.here) a.7

@@ -25,7 +25,7 @@ use Rattle.patr_scratch.specs.declared.Side.TheVariants as side
 use Rattle.patr_scratch.specs.declared.Visit.{Visit}
 use Rattle.patr_scratch.specs.declared.Visit.TheVariants as visit
 use Rattle.patr_scratch.specs.Contents.{Contents}
-use Rattle.patr_unify.specs.Copying.{CopiesFit, Fits, IsCopiedTo, IsCopyMarked, IsEndRef, IsOld, MarkFits, copied_of, copying_by, made_of, new_nodes, ref_to, stays_free}
+use Rattle.patr_unify.specs.Copying.{IsWorked, CopiesFit, Fits, IsCopiedTo, IsCopyMarked, IsEndRef, IsOld, MarkFits, copied_of, copying_by, made_of, new_nodes, ref_to, stays_free}
 use Rattle.patr_unify.specs.Deciding.{IsEndOfLeft}
 use Rattle.patr_unify.specs.Merging.{both}
 use Rattle.patr_unify.specs.Reading.{AreHeld, LinksHeld, OptionIsHeld, added_of, behind, forward_of, key, marks_in, option_at, slot_of, value_on}
@@ -64,18 +64,6 @@ pub copied_more : (v : Shown) (size : ℕ) (o : Option Copied) (x : Value) → I
 copied_more v size None x h = h
 copied_more v size (Some d) x h = (h.0, fits_more v size (ref_to d) h.1)
 
--- forwards and added arcs are the same
-pub record SameArcs (w : Contents) (t : Contents) : Type 0 where
-  pub places : length t.places ≡ length w.places
-  pub pair_room : t.pair_room ≡ w.pair_room
-  pub visit_room : t.visit_room ≡ w.visit_room
-  pub forward : (j : ℕ) → (marks_in t j).forward ≡ (marks_in w j).forward
-  pub added : (j : ℕ) → (marks_in t j).added ≡ (marks_in w j).added
-
--- what stays while a copy is made
-abbrev pub IsWorked : Contents → Contents → Type 0
-IsWorked w t = SameArcs (bare w) (bare t)
-
 pub worked_then : (w t u : Contents) → IsWorked w t → IsWorked t u → IsWorked w u
 worked_then w t u h k = record {
   places = k.places ∙ h.places;
@@ -89,12 +77,7 @@ pub still_worked : (w t : Contents) → IsStill w t → IsWorked w t
 still_worked w t h = record { places = h.places; pair_room = h.pair_room; visit_room = h.visit_room; forward = h.forward; added = h.added }
 
 pub marked_keeps : (v : Shown) (u m : Contents) (k : ℕ) (d : Copied) → IsCopyMarked v u m k d → IsWorked u m × ((j : ℕ) → visit_of v m j ≡ visit_of v u j) × (m.visits ≡ u.visits) × (m.pairs ≡ u.pairs)
-marked_keeps v u m k d h = (
-  record { places = h.places; pair_room = h.pair_room; visit_room = h.visit_room; forward = h.forward; added = h.added },
-  λ j. h.visit (slot_of (length v.structure) j),
-  h.visits,
-  h.pairs,
-)
+marked_keeps v u m k d h = (h.still, λ j. h.visit (slot_of (length v.structure) j), h.visits, h.pairs)
 
 module _ (v : Shown) (w t : Contents) (h : IsWorked w t) where
   pub worked_forward : (k : ℕ) → forward_of v t k ≡ forward_of v w k

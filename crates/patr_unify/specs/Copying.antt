@@ -2,7 +2,8 @@
 --     copying_by v w     what a copy reads
 --     made_of v r        what an arc of the new block leads to
 --     IsMade             the copy is a unifier that keeps what is untouched
-use Rattle.std.specs.Prelude.{◌≡◌, ◌≢◌, ℕ, ◌+◌, ◌-◌, ◌<◌, ◌≤◌, ◌⊎◌, Bool, true, false, cond, nat_eq, nat_lt, Option, Some, None, List, [], ◌∷◌, ◌++◌, length, map}
+use Rattle.std.specs.Prelude.{◌≡◌, ◌≢◌, ℕ, ◌+◌, ◌-◌, ◌<◌, ◌≤◌, ◌⊎◌, Bool, true, false, cond, nat_lt, Option, Some, None, List, [], ◌∷◌, ◌++◌, length, map, get_or}
+use Rattle.std.specs.List.{insert}
 use Rattle.std.specs.List.Sorted.{IsStrictlyIncreasing}
 use Rattle.patr_model.specs.Structure.{Value, Atom, Node, Arcs, Structure, IsReached}
 use Rattle.patr_model.specs.Settled.{Images, Keeps}
@@ -27,7 +28,7 @@ use Rattle.patr_unify.specs.Merging.{both}
 use Rattle.patr_unify.specs.declared.draft.Draft.{Draft}
 use Rattle.patr_scratch.specs.declared.Place.{Place}
 use Rattle.patr_unify.specs.declared.cursor.Cursor.{Cursor}
-use Rattle.patr_unify.specs.Walking.{IsFoundAt, IsOther, IsPaused, IsPutOn, IsTakenFrom, IsVisited, end_value, first, visit_of}
+use Rattle.patr_unify.specs.Walking.{IsFoundAt, IsOther, IsPaused, IsPutOn, IsTakenFrom, IsVisited, bare, end_value, first, visit_of}
 
 -- the right side's node at a place may stay there: the left side's node there has neither a forward nor a visit
 abbrev pub stays_free : Option Value → Visit → Bool
@@ -104,45 +105,43 @@ abbrev pub IsKeptOrNot : Shown → Contents → ℕ → Bool → Type 0
 IsKeptOrNot v w k true = (free_of v w k ≡ true) × (covered (added_of v w k) (own (sides v.structure) k) ≡ true) × AllLead v w (own (sides v.structure) k) true
 IsKeptOrNot v w k false = (free_of v w k ≡ false) ⊎ ((covered (added_of v w k) (own (sides v.structure) k) ≡ false) ⊎ AllLead v w (own (sides v.structure) k) false)
 
--- where the entry with this attribute leads
-abbrev pub found_at : List (ℕ × Ref) → ℕ → Option Ref
-found_at [] a = None
-found_at (e ∷ es) a = cond (nat_eq e.0 a) (Some e.1) (found_at es a)
+-- where an arc with this attribute belongs: behind one with a lower attribute, and before one whose attribute is not lower
+pub record IsPlaceIn (fs : List Feature) (a : ℕ) (i : ℕ) : Type 0 where
+  pub within : i ≤ length fs
+  pub above : (d : Feature) → 0 < i → (get_or fs (i - 1) d).attribute.0 < a
+  pub below : (d : Feature) → i < length fs → a ≤ (get_or fs i d).attribute.0
 
--- the entries lead to nodes that are there and to the first nodes of the new block
-abbrev pub EntriesFit : Shown → ℕ → List (ℕ × Ref) → Type 0
-EntriesFit v size [] = Unit {0}
-EntriesFit v size (e ∷ es) = Fits v size e.1 × EntriesFit v size es
+-- the arc was put at its place, or one with its attribute was there
+abbrev pub IsPut : List Feature → Feature → List Feature → Type 0
+IsPut old f new = (i : ℕ) × IsPlaceIn old f.attribute.0 i
+    × (((i < length old) × ((d : Feature) → (get_or old i d).attribute.0 ≡ f.attribute.0) × (new ≡ old)) ⊎ (((d : Feature) → i < length old → f.attribute.0 < (get_or old i d).attribute.0) × (new ≡ insert old i f)))
 
--- the arc that an entry is
-abbrev pub feature_at : ℕ × Ref → Feature
-feature_at e = record { attribute = record { 0 = e.0 }; to = e.1 }
-
--- the entries are of arcs and lead to the copies of their ends, and all but the rest of the arcs have one
-pub record IsGathered (v : Shown) (w : Contents) (size : ℕ) (es : Arcs) (rest : Arcs) (entries : List (ℕ × Ref)) : Type 0 where
-  pub only : (a : ℕ) (r : Ref) → found_at entries a ≡ Some r → (x : Value) × Has es a x × IsEndRef v w (end_value v w x) r
-  pub each : (a : ℕ) (x : Value) → Has es a x → Has rest a x ⊎ ((r : Ref) × (found_at entries a ≡ Some r))
-  pub fit : EntriesFit v size entries
-
--- the arcs of a new node: of each attribute one, to the copies of the ends
-pub record IsNodeOf (v : Shown) (w : Contents) (size : ℕ) (es : Arcs) (fs : List Feature) : Type 0 where
+-- the arcs of a new node, to the copies of the ends: of each attribute one, but for the rest of the arcs
+pub record IsNodeOf (v : Shown) (w : Contents) (size : ℕ) (es : Arcs) (rest : Arcs) (fs : List Feature) : Type 0 where
   pub only : (a : ℕ) (r : Ref) → feature_to fs a ≡ Some r → (x : Value) × Has es a x × IsEndRef v w (end_value v w x) r
-  pub each : (a : ℕ) (x : Value) → Has es a x → (r : Ref) × (feature_to fs a ≡ Some r)
+  pub each : (a : ℕ) (x : Value) → Has es a x → Has rest a x ⊎ ((r : Ref) × (feature_to fs a ≡ Some r))
   pub rising : IsStrictlyIncreasing (attributes fs)
   pub below : AllBelow size fs
   pub old : AllOldHeld v fs
 
--- one place's copy is marked, and no other one
-pub record IsCopyMarked (v : Shown) (w : Contents) (t : Contents) (k : ℕ) (d : Copied) : Type 0 where
+-- forwards and added arcs are the same
+pub record SameArcs (w : Contents) (t : Contents) : Type 0 where
   pub places : length t.places ≡ length w.places
-  pub arcs : t.arcs ≡ w.arcs
-  pub arc_room : t.arc_room ≡ w.arc_room
-  pub pairs : t.pairs ≡ w.pairs
   pub pair_room : t.pair_room ≡ w.pair_room
-  pub visits : t.visits ≡ w.visits
   pub visit_room : t.visit_room ≡ w.visit_room
   pub forward : (j : ℕ) → (marks_in t j).forward ≡ (marks_in w j).forward
   pub added : (j : ℕ) → (marks_in t j).added ≡ (marks_in w j).added
+
+-- what stays while a copy is made
+abbrev pub IsWorked : Contents → Contents → Type 0
+IsWorked w t = SameArcs (bare w) (bare t)
+
+-- one place's copy is marked, and no other one
+pub record IsCopyMarked (v : Shown) (w : Contents) (t : Contents) (k : ℕ) (d : Copied) : Type 0 where
+  pub still : IsWorked w t
+  pub arc_room : t.arc_room ≡ w.arc_room
+  pub pairs : t.pairs ≡ w.pairs
+  pub visits : t.visits ≡ w.visits
   pub visit : (j : ℕ) → (marks_in t j).visit ≡ (marks_in w j).visit
   pub here : copied_of v t k ≡ Some d
   pub others : (j : ℕ) → j ≢ k → copied_of v t j ≡ copied_of v w j
@@ -160,7 +159,7 @@ pub record HasStayed (v : Shown) (w : Contents) (t : Contents) (top : Place) (ol
 pub record HasNewNode (v : Shown) (w : Contents) (t : Contents) (top : Place) (old : Draft) (new : Draft) : Type 0 where
   pub changed : IsKeptOrNot v w (key v top) false
   pub features : List Feature
-  pub node : IsNodeOf v w (length old.block) (both v w (key v top)) features
+  pub node : IsNodeOf v w (length old.block) (both v w (key v top)) [] features
   pub marked : IsCopyMarked v w t (key v top) (copied.New (length old.block))
   pub block : new.block ≡ old.block ++ features ∷ []
   pub nodes : new.nodes ≡ old.nodes + 1

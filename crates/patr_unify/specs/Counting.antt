@@ -1,15 +1,20 @@
 -- The count of what a value reaches.
 --     IsReaching     a list of nodes that are reached, where what their arcs lead to is in it or waits
---     IsCounting     the same of a set of numbers and a list of values
+--     seen_in        whether a number was visited
+--     IsCounting     the same of the visited nodes and a list of values
 --     IsLookedAt     what a look at one value leaves
-use Rattle.std.specs.Prelude.{◌≡◌, ℕ, ◌+◌, ◌≤◌, ◌⊎◌, true, cond, nat_eq, Some, List, [], ◌∷◌, ◌++◌, length, map}
-use Rattle.std.specs.HashSet.{HashSet, contains, hash_set_len}
+use Rattle.std.specs.Prelude.{◌≡◌, ℕ, ◌+◌, ◌≤◌, ◌⊎◌, Bool, true, false, cond, Some, List, [], ◌∷◌, ◌++◌, length, map}
 use Rattle.patr_lists.specs.Members.{NoRepeats, IsIn}
 use Rattle.patr_lists.specs.Numbers.{total, upto}
 use Rattle.patr_model.specs.Structure.{Value, Atom, Node, Arcs, Structure, arc, at, IsReached}
 use Rattle.patr_marks.specs.Machine.{own}
 use Rattle.patr_arena.specs.declared.value.Value as its
 use Rattle.patr_arena.specs.Shown.{Shown, ValueIsHeld, value_of}
+use Rattle.patr_scratch.specs.declared.Side.TheVariants as side
+use Rattle.patr_scratch.specs.declared.Visit.{Visit}
+use Rattle.patr_scratch.specs.declared.Visit.TheVariants as visit
+use Rattle.patr_scratch.specs.Contents.{Contents, marks}
+use Rattle.patr_unify.specs.declared.reach.Reach.{Reach}
 
 -- what the arcs lead to
 abbrev pub targets : Arcs → List Value
@@ -37,22 +42,30 @@ pub record IsReaching (S : Structure) (x : Value) (ks : List ℕ) (ws : List Val
   pub first : IsNoted ks ws x
   pub closed : (k a : ℕ) (y : Value) → IsIn ks k → arc S (Node k) a ≡ Some y → IsNoted ks ws y
 
-module _ {Z : Type 0} where
-  -- the set has the numbers of such nodes, the values that wait are held, and the nodes have so many arcs
-  pub record IsCounting (v : Shown) (seen : HashSet ℕ Z) (x : Value) (ws : List its.Value) (arcs : ℕ) : Type 0 where
-    pub list : List ℕ
-    pub reaching : IsReaching v.structure x list (values v ws)
-    pub in_list : (k : ℕ) → contains nat_eq seen k ≡ true → IsIn list k
-    pub in_set : (k : ℕ) → IsIn list k → contains nat_eq seen k ≡ true
-    pub nodes_are : length list ≡ hash_set_len seen
-    pub arcs_are : total (λ k. length (own v.structure k)) list ≡ arcs
+-- whether the walk has come to a place with this visit
+abbrev pub is_seen : Visit → Bool
+is_seen visit.Unseen = false
+is_seen visit.Entered = true
+is_seen visit.Left = true
 
-  -- how many arcs the nodes have that the set lacks
-  abbrev pub unseen_arcs : Shown → HashSet ℕ Z → ℕ
-  unseen_arcs v seen = total (λ k. cond (contains nat_eq seen k) 0 (length (own v.structure k))) (upto (length v.structure))
+abbrev pub seen_in : Contents → ℕ → Bool
+seen_in w k = is_seen (marks w side.Left k).visit
 
-  -- the value was looked at: it no longer waits, and so many arcs were found
-  pub record IsLookedAt (v : Shown) (seen now : HashSet ℕ Z) (value : its.Value) (waiting rest : List its.Value) (arcs : ℕ) : Type 0 where
-    pub held : ValuesHeld v rest
-    pub counts : (x : Value) (before : ℕ) → IsCounting v seen x (waiting ++ value ∷ []) before → IsCounting v now x rest (before + arcs)
-    pub fewer : length rest + unseen_arcs v now ≤ length waiting + unseen_arcs v seen
+-- what was seen are such nodes, so many, the values that wait are held, and the nodes have so many arcs
+pub record IsCounting (v : Shown) (seen : ℕ → Bool) (x : Value) (ws : List its.Value) (reach : Reach) : Type 0 where
+  pub list : List ℕ
+  pub reaching : IsReaching v.structure x list (values v ws)
+  pub in_list : (k : ℕ) → seen k ≡ true → IsIn list k
+  pub in_set : (k : ℕ) → IsIn list k → seen k ≡ true
+  pub nodes_are : length list ≡ reach.nodes
+  pub arcs_are : total (λ k. length (own v.structure k)) list ≡ reach.arcs
+
+-- how many arcs the nodes have that were not seen
+abbrev pub unseen_arcs : Shown → (ℕ → Bool) → ℕ
+unseen_arcs v seen = total (λ k. cond (seen k) 0 (length (own v.structure k))) (upto (length v.structure))
+
+-- the value was looked at: it no longer waits, and it is counted
+pub record IsLookedAt (v : Shown) (seen now : ℕ → Bool) (value : its.Value) (waiting rest : List its.Value) (old new : Reach) : Type 0 where
+  pub held : ValuesHeld v rest
+  pub counts : (x : Value) → IsCounting v seen x (waiting ++ value ∷ []) old → IsCounting v now x rest new
+  pub fewer : length rest + unseen_arcs v now ≤ length waiting + unseen_arcs v seen

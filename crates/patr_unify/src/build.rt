@@ -43,7 +43,6 @@ fn mark_copy<N: Nodes>(nodes: &N, place: Place, made: Copied, scratch: &mut Scra
 
 /// Copies an end all of whose arcs lead to ends that were copied: it stays, or it gets a new node.
 fn finish<N: Nodes>(
-    alloc: Global,
     nodes: &N,
     top: Place,
     scratch: &mut Scratch,
@@ -67,9 +66,10 @@ fn finish<N: Nodes>(
         mark_copy(nodes, top, kept, scratch);
         return Ok(());
     }
-    let arcs = merged_arcs(alloc, nodes, scratch, top)?;
-    draft.arcs = draft.arcs.checked_add(arcs.len() as u64).ok_or(AllocError)?;
-    let offset = draft.block.add(&arcs)?;
+    merged_arcs(nodes, scratch, top, &mut draft.features)?;
+    let count = draft.features.len();
+    draft.arcs = draft.arcs.checked_add(count as u64).ok_or(AllocError)?;
+    let offset = draft.block.add(&draft.features)?;
     mark_copy(nodes, top, Copied::New(offset), scratch);
     Ok(())
 }
@@ -78,7 +78,6 @@ fn finish<N: Nodes>(
 /// arcs that was not entered, or, where there is none, to its copy. Answers how far the arcs of the new top were looked
 /// over.
 fn go_on<N: Nodes>(
-    alloc: Global,
     nodes: &N,
     top: Place,
     from: Cursor,
@@ -100,7 +99,7 @@ fn go_on<N: Nodes>(
             Ok(FIRST)
         }
         None => {
-            finish(alloc, nodes, top, scratch, draft)?;
+            finish(nodes, top, scratch, draft)?;
             Ok(take_up(scratch))
         }
     }
@@ -121,13 +120,14 @@ fn copy_from<N: Nodes>(
 {
     let mut draft = Draft {
         block: Block::new(alloc),
+        features: Vec::new(alloc),
         nodes: 0,
         arcs: 0,
     };
     enter(nodes, root, scratch);
     let mut from = FIRST;
     while let Some(top) = scratch.pop_visit() {
-        from = go_on(alloc, nodes, top, from, scratch, &mut draft)?;
+        from = go_on(nodes, top, from, scratch, &mut draft)?;
     }
     let made = end_ref(nodes, scratch, Target::Place(root));
     Ok(Made {

@@ -1,15 +1,15 @@
 //! How much two sides reach, and the room for it.
-ghost use Rattle.std.specs.Prelude.{◌≡◌, ◌++◌, IfOk, OnOk, length};
+ghost use Rattle.std.specs.Prelude.{◌≡◌, ◌++◌, ◌*◌, ◌≤◌, IfOk, OnOk, length};
 ghost use Rattle.patr_model.specs.Structure.{Node, arcs_of};
 ghost use Rattle.patr_arena.specs.Shown.{IsHeld, ValueIsHeld, number_of, value_of};
 ghost use Rattle.patr_scratch.specs.Contents.{IsBlank, KeepsRoom};
 ghost use Rattle.patr_unify.specs.Deciding.{Counts, HasDecisionRoom};
-ghost use Rattle.patr_unify.specs.Counting.{IsLookedAt, ValuesHeld, targets, values};
+ghost use Rattle.patr_unify.specs.Counting.{IsLookedAt, ValuesHeld, seen_in, targets, values};
 
+use crate::walk::same_visit;
 use patr_arena::{Addr, Nodes, Value};
-use patr_scratch::{Memory, Scratch};
+use patr_scratch::{Memory, Scratch, Side, Visit};
 use std::alloc::{AllocError, Global};
-use std::collections::HashSet;
 
 /// How many nodes a value reaches, and how many arcs these nodes have.
 #[derive(Clone, Copy)]
@@ -35,8 +35,10 @@ pub fn reserve_for<N: Nodes>(
     ensures blank { OnOk result (IsBlank scratch.new) }
     ensures room { OnOk result (HasDecisionRoom (N.shown nodes.now) scratch.new (number_of (N.shown nodes.now) left.block left.offset) (value_of (N.shown nodes.now) right)) }
 {
-    let left_reach = reachable(alloc, nodes, Value::Node(left))?;
-    let right_reach = reachable(alloc, nodes, right)?;
+    let table = nodes.count();
+    scratch.reserve(table, 0, 0)?;
+    let left_reach = reachable(alloc, nodes, Value::Node(left), scratch)?;
+    let right_reach = reachable(alloc, nodes, right, scratch)?;
     let visits = left_reach
         .nodes
         .checked_add(right_reach.nodes)
@@ -45,47 +47,60 @@ pub fn reserve_for<N: Nodes>(
         .arcs
         .checked_add(right_reach.arcs)
         .ok_or(AllocError)?;
-    scratch.reserve(nodes.count(), visits, arcs)
+    scratch.reserve(table, visits, arcs)
 }
 
-/// How many nodes the value reaches, and how many arcs these have. The value is held. Fails for want of memory alone.
-pub(crate) fn reachable<N: Nodes>(alloc: Global, nodes: &N, from: Value) -> Result<Reach, Memory>
-    requires { ValueIsHeld (N.shown nodes.now) from }
-    ensures { IfOk result (λ reach. Counts (N.shown nodes.now).structure (value_of (N.shown nodes.now) from) reach.nodes reach.arcs) }
+/// How many nodes the value reaches, and how many arcs these have. The value is held, and the scratch has room for each
+/// node. It drops all marks, and marks each node that it comes to. Fails for want of memory alone.
+pub(crate) fn reachable<N: Nodes>(
+    alloc: Global,
+    nodes: &N,
+    from: Value,
+    scratch: &mut Scratch,
+) -> Result<Reach, Memory>
+    requires from { ValueIsHeld (N.shown nodes.now) from }
+    requires table { 2 * length (N.shown nodes.now).structure ≤ length scratch.old.places }
+    ensures counts { IfOk result (λ reach. Counts (N.shown nodes.now).structure (value_of (N.shown nodes.now) from) reach.nodes reach.arcs) }
+    ensures room { KeepsRoom scratch.old scratch.new }
 {
-    let mut seen = HashSet::new(alloc);
+    scratch.begin();
     let mut waiting = Vec::new(alloc);
     waiting.push(from)?;
-    let mut arcs: u64 = 0;
+    let mut reach = Reach { nodes: 0, arcs: 0 };
     while let Some(value) = waiting.pop() {
-        let more = look_at(nodes, &mut seen, &mut waiting, value)?;
-        arcs = arcs.checked_add(more).ok_or(AllocError)?;
+        reach = look_at(nodes, scratch, &mut waiting, value, reach)?;
     }
-    Ok(Reach {
-        nodes: seen.len() as u64,
-        arcs,
-    })
+    Ok(reach)
 }
 
-/// Looks at one value. If it is a node that was not seen, what its arcs lead to waits. Answers how many arcs were
-/// found so, 0 if none. Fails for want of memory alone.
+/// Looks at one value. If it is a node that was not seen, it is counted, and what its arcs lead to waits. Answers what was
+/// counted so far. Fails for want of memory alone.
 fn look_at<N: Nodes>(
     nodes: &N,
-    seen: &mut HashSet<u64>,
+    scratch: &mut Scratch,
     waiting: &mut Vec<Value>,
     value: Value,
-) -> Result<u64, Memory>
+    reach: Reach,
+) -> Result<Reach, Memory>
     requires value { ValueIsHeld (N.shown nodes.now) value }
     requires waiting { ValuesHeld (N.shown nodes.now) waiting.old.items }
-    ensures { IfOk result (λ arcs. IsLookedAt (N.shown nodes.now) seen.old seen.new value waiting.old.items waiting.new.items arcs) }
+    requires table { 2 * length (N.shown nodes.now).structure ≤ length scratch.old.places }
+    ensures looked { IfOk result (λ new. IsLookedAt (N.shown nodes.now) (seen_in scratch.old) (seen_in scratch.new) value waiting.old.items waiting.new.items reach new) }
+    ensures room { KeepsRoom scratch.old scratch.new }
 {
     let Value::Node(at) = value else {
-        return Ok(0);
+        return Ok(reach);
     };
-    if !seen.insert(nodes.number(at))? {
-        return Ok(0);
+    let number = nodes.number(at);
+    if !same_visit(scratch.visit(Side::Left, number), Visit::Unseen) {
+        return Ok(reach);
     }
-    Ok(push_targets(nodes, waiting, at)?)
+    scratch.set_visit(Side::Left, number, Visit::Left);
+    let arcs = push_targets(nodes, waiting, at)?;
+    Ok(Reach {
+        nodes: reach.nodes.checked_add(1).ok_or(AllocError)?,
+        arcs: reach.arcs.checked_add(arcs).ok_or(AllocError)?,
+    })
 }
 
 /// Lets what each arc of the node leads to wait. Answers how many arcs it has. Fails for want of memory alone.

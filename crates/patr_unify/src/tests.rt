@@ -374,15 +374,16 @@ fn decide_within<L: Ledger>(
     let Some(_) = resolve_path(arena, Value::Node(left), path) else {
         return Err(AllocError);
     };
-    let first = reachable(alloc, arena, Value::Node(left))?;
-    let second = reachable(alloc, arena, right)?;
+    let table = arena.count();
+    let mut scratch = Scratch::new(alloc);
+    scratch.reserve(table, 0, 0)?;
+    let first = reachable(alloc, arena, Value::Node(left), &mut scratch)?;
+    let second = reachable(alloc, arena, right, &mut scratch)?;
     let visits = first.nodes.checked_add(second.nodes).ok_or(AllocError)?;
     let arcs = first.arcs.checked_add(second.arcs).ok_or(AllocError)?;
-    let table = arena.count();
     if (table, visits, arcs) != room {
         return Ok(None);
     }
-    let mut scratch = Scratch::new(alloc);
     scratch.reserve(table, visits, arcs)?;
     let mut steps = Steps::<L>::new(blank);
     let found = decide(arena, left, path, right, &mut scratch, &mut steps);

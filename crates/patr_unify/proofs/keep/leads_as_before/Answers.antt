@@ -1,13 +1,11 @@
-use Rattle.std.proofs.Common.{◌+◌, ◌∙◌, length, get_or, drop, sym, ap, subst}
+use Rattle.std.proofs.Common.{◌+◌, get_or, drop, subst}
 use Rattle.patr_marks.specs.Machine.{own}
 use Rattle.patr_marks.specs.Sides.{sides}
-use Rattle.patr_arena.specs.Shown.{value_of}
 use Rattle.patr_arena.proofs.Addresses.{value_below}
-use Rattle.patr_unify.specs.Copying.{IsEndRef, LeadsAsBefore}
-use Rattle.patr_unify.specs.Reading.{key, value_at, value_on}
-use Rattle.patr_unify.specs.Walking.{AllButRest, end_value}
+use Rattle.patr_unify.specs.Copying.{LeadsAsBefore}
+use Rattle.patr_unify.specs.Reading.{key}
+use Rattle.patr_unify.specs.Walking.{AllButRest}
 use Rattle.patr_unify.proofs.Keeping.{leads_before, leads_elsewhere}
-use Rattle.patr_unify.proofs.Keys.{target_value}
 use Rattle.patr_unify.proofs.Loops.{blank, own_arc, own_end}
 use Rattle.patr_unify.proofs.Takes.{arc_of}
 use Rattle.patr_unify.proofs.Walks.{none_left, one_less}
@@ -23,33 +21,22 @@ pub returns-then-not-is_old : goal.returns-then-not-is_old
 returns-then-not-is_old g c =
     let v = g.N.Nodes.shown c.args.nodes.now in
     let w = c.args.scratch.now in
-    let s = g.met.N.Nodes.lawful c.args.nodes.now in
     let p = c.args.place in
     let items = c.arcs-feature-items in
-    let i = c.loop-feature.feature-index in
-    let a = own_arc v s w p c.requires.place c.address-at.result c.address-at.ensures items.result.now items.ensures.held items.ensures.same i c.loop-feature-test.true in
-    let e = arc_of v p (get_or items.result.now i blank) in
-    let x = c.resolve-before.result in
-    let here = ap (value_on p.side (length v.structure)) (sym c.resolve-before.ensures.same) in
-    let end = subst (λ x. IsEndRef v w (end_value v w x) c.end_ref-now.result) (ap (value_at v) c.target_on.ensures ∙ (target_value v p.side x ∙ sym here)) c.end_ref-now.ensures.same in
-    (e.attribute, e.to, a.has, leads_elsewhere v w p.side e.to (value_of v x) c.end_ref-now.result (value_below v s x c.resolve-before.ensures.held) here end (c.is_old.ensures.apart c.if-not-is_old.true))
+    let f = get_or items.result.now c.loop-feature.feature-index blank in
+    (f.attribute.0, (arc_of v p f).to, (own_arc v (g.met.N.Nodes.lawful c.args.nodes.now) w p c.requires.place c.address-at.result c.address-at.ensures items.result.now items.ensures.held items.ensures.same c.loop-feature.feature-index c.loop-feature-test.true).has, leads_elsewhere v w p f c.resolve-before.result c.target_on.result c.end_ref-now.result (value_below v (g.met.N.Nodes.lawful c.args.nodes.now) c.resolve-before.result c.resolve-before.ensures.held) c.resolve-before.ensures.same c.target_on.ensures c.end_ref-now.ensures.same (c.is_old.ensures.apart c.if-not-is_old.true))
 
 pub loop-feature-preserved : goal.loop-feature-preserved
 loop-feature-preserved g c =
     let v = g.N.Nodes.shown c.args.nodes.now in
     let w = c.args.scratch.now in
-    let s = g.met.N.Nodes.lawful c.args.nodes.now in
     let p = c.args.place in
     let items = c.arcs-feature-items in
-    let i = c.loop-feature.feature-index in
-    let a = own_arc v s w p c.requires.place c.address-at.result c.address-at.ensures items.result.now items.ensures.held items.ensures.same i c.loop-feature-test.true in
-    let e = arc_of v p (get_or items.result.now i blank) in
-    let x = c.resolve-before.result in
+    let f = get_or items.result.now c.loop-feature.feature-index blank in
+    let a = own_arc v (g.met.N.Nodes.lawful c.args.nodes.now) w p c.requires.place c.address-at.result c.address-at.ensures items.result.now items.ensures.held items.ensures.same c.loop-feature.feature-index c.loop-feature-test.true in
     let all = own (sides v.structure) (key v p) in
-    let here = ap (value_on p.side (length v.structure)) (sym c.resolve-before.ensures.same) in
-    let end = subst (λ x. IsEndRef v w (end_value v w x) c.end_ref-now.result) (ap (value_at v) c.target_on.ensures ∙ (target_value v p.side x ∙ sym here)) c.end_ref-now.ensures.same in
-    one_less (LeadsAsBefore v w) all e (drop (i + 1) all) (subst (AllButRest (LeadsAsBefore v w) all) a.next c.loop-feature.invariant)
-    (leads_before v w p.side e.to (value_of v x) c.end_ref-now.result (value_below v s x c.resolve-before.ensures.held) here end (c.is_old.ensures.same c.if-not-is_old.false))
+    one_less (LeadsAsBefore v w) all (arc_of v p f) (drop (c.loop-feature.feature-index + 1) all) (subst (AllButRest (LeadsAsBefore v w) all) a.next c.loop-feature.invariant)
+    (leads_before v w p f c.resolve-before.result c.target_on.result c.end_ref-now.result (value_below v (g.met.N.Nodes.lawful c.args.nodes.now) c.resolve-before.result c.resolve-before.ensures.held) c.resolve-before.ensures.same c.target_on.ensures c.end_ref-now.ensures.same (c.is_old.ensures.same c.if-not-is_old.false))
 
 pub returns : goal.returns
 returns g c =

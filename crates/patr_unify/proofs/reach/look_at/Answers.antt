@@ -1,41 +1,37 @@
-use Rattle.std.proofs.Common.{◌≡◌, ◌+◌, ◌∙◌, ℕ, List, Bool, cond, true, false, length, nat_eq, refl, sym, ap, subst}
-use Rattle.std.specs.Bool.{OnFalse}
-use Rattle.std.specs.List.{list_any}
-use Rattle.std.specs.HashSet.{contains, hash_set_len}
+use Rattle.std.proofs.Common.{rules, ◌≡◌, ◌+◌, ◌∙◌, ℕ, true, false, sym, ap, subst, arith}
 use Rattle.patr_model.specs.Structure.{Node}
 use Rattle.patr_arena.specs.declared.value.Value.{Value}
 use Rattle.patr_arena.specs.Shown.{ValueIsHeld, number_of, value_of}
 use Rattle.patr_arena.proofs.Showing.{held_below}
-use Rattle.patr_unify.specs.Counting.{IsLookedAt}
-use Rattle.patr_unify.proofs.Counting.{IsSeen, looked_known, looked_new, was_in, was_not_in}
+use Rattle.patr_unify.specs.Counting.{is_seen, seen_in}
+use Rattle.patr_unify.proofs.Counting.{IsSeen, looked_known, looked_new, seen_put, seen_visit, visited_at}
 use Rattle.patr_unify.proofs.reach.look_at.Goals as goal
 
-pub returns-in_default : goal.returns-in_default
-returns-in_default g c =
+pub returns-in_default-clause-looked : goal.returns-in_default-clause-looked
+returns-in_default-clause-looked g c =
     let v = g.N.Nodes.shown c.args.nodes.now in
-    let seen = c.args.seen.now in
-    looked_known v seen seen c.args.value c.args.waiting.now.items (subst (λ (x : Value). IsSeen seen (value_of v x)) (sym c.in_default.is) tt) (λ k. refl) refl c.requires.waiting
+    let seen = seen_in c.args.scratch.now in
+    looked_known v seen c.args.value c.args.waiting.now.items c.args.reach (subst (λ (x : Value). IsSeen seen (value_of v x)) (sym c.in_default.is) tt) c.requires.waiting
 
-pub returns-then-not-branch : goal.returns-then-not-branch
-returns-then-not-branch g c =
+pub returns-then-not-same_visit-clause-looked : goal.returns-then-not-same_visit-clause-looked
+returns-then-not-same_visit-clause-looked g c =
     let v = g.N.Nodes.shown c.args.nodes.now in
-    let seen = c.args.seen.now in
-    let there = was_in c.in_ok-insert.field-0 (contains nat_eq seen c.number.result) c.if-not-branch.true c.in_ok-insert.ensures.added in
-    let known = subst (λ (x : Value). IsSeen seen (value_of v x)) (sym c.in-Node.is) (subst (λ (k : ℕ). IsSeen seen (Node k)) c.number.ensures there) in
-    let same = subst (λ (b : Bool). OnFalse b (c.insert.new.self.keys ≡ seen.keys)) c.if-not-branch.true c.in_ok-insert.ensures.unchanged in
-    looked_known v seen c.insert.new.self c.args.value c.args.waiting.now.items known (λ k. ap (λ (ks : List ℕ). list_any (nat_eq k) ks) same) (ap length same) c.requires.waiting
+    let seen = seen_in c.args.scratch.now in
+    let there : seen c.number-number.result ≡ true = ap is_seen (sym c.visit.ensures) ∙ seen_visit c.visit.result (c.same_visit.ensures.apart c.if-not-same_visit.true) in
+    looked_known v seen c.args.value c.args.waiting.now.items c.args.reach (subst (λ (x : Value). IsSeen seen (value_of v x)) (sym c.in-Node.is) (subst (λ (k : ℕ). IsSeen seen (Node k)) c.number-number.ensures there)) c.requires.waiting
 
-pub returns : goal.returns
-returns g c =
+pub returns-clause-looked : goal.returns-clause-looked
+returns-clause-looked g c =
     let v = g.N.Nodes.shown c.args.nodes.now in
-    let s = g.met.N.Nodes.lawful c.args.nodes.now in
-    let seen = c.args.seen.now in
+    let w = c.args.scratch.now in
     let at = c.in-Node.at in
     let n = number_of v at.block at.offset in
-    let is_node : value_of v c.args.value ≡ Node n = ap (value_of v) c.in-Node.is in
-    let held = subst (ValueIsHeld v) c.in-Node.is c.requires.value in
-    let new = subst (λ (k : ℕ). contains nat_eq seen k ≡ false) c.number.ensures (was_not_in c.in_ok-insert.field-0 (contains nat_eq seen c.number.result) c.if-not-branch.false c.in_ok-insert.ensures.added) in
-    let updates = subst (λ (j : ℕ). (k : ℕ) → contains nat_eq c.insert.new.self k ≡ cond (nat_eq j k) true (contains nat_eq seen k)) c.number.ensures c.in_ok-insert.ensures.updates.0 in
-    let size : hash_set_len c.insert.new.self ≡ hash_set_len seen + 1 = c.in_ok-insert.ensures.len ∙ ap (λ (b : Bool). hash_set_len seen + cond b 1 0) c.if-not-branch.false in
-    subst (λ (m : ℕ). IsLookedAt v seen c.insert.new.self c.args.value c.args.waiting.now.items c.push_targets.new.waiting.items m) (sym c.in_ok-push_targets.ensures.arcs)
-    (looked_new v s seen c.insert.new.self c.args.value n c.args.waiting.now.items c.push_targets.new.waiting.items is_node (held_below v s at.block at.offset held) new updates size c.in_ok-push_targets.ensures.targets c.in_ok-push_targets.ensures.held)
+    let inside = held_below v (g.met.N.Nodes.lawful c.args.nodes.now) at.block at.offset (subst (ValueIsHeld v) c.in-Node.is c.requires.value) in
+    let unseen = ap is_seen (sym c.visit.ensures ∙ c.same_visit.ensures.same c.if-not-same_visit.false) in
+    let put = c.set_visit.ensures ∙ ap (λ j. visited_at w j) c.number-number.ensures in
+    let one : c.in_ok-ok_or.field-0 ≡ c.args.reach.nodes + 1 = search rules in
+    let more : c.in_ok-ok_or-2.field-0 ≡ c.args.reach.arcs + c.in_ok-arcs.arcs = search rules in
+    looked_new v (g.met.N.Nodes.lawful c.args.nodes.now) (seen_in w) (seen_in c.set_visit.new.self) c.args.value n c.args.waiting.now.items c.push_targets.new.waiting.items c.args.reach
+    (record { nodes = c.in_ok-ok_or.field-0; arcs = c.in_ok-ok_or-2.field-0 }) (ap (value_of v) c.in-Node.is) inside (subst (λ (k : ℕ). seen_in w k ≡ false) c.number-number.ensures unseen)
+    (λ k. ap (λ u. seen_in u k) put ∙ seen_put w n (let table = c.requires.table in omega (arith, inside, table)) k) one (more ∙ ap (λ a. c.args.reach.arcs + a) c.in_ok-arcs.ensures.arcs)
+    c.in_ok-arcs.ensures.targets c.in_ok-arcs.ensures.held

@@ -1,4 +1,5 @@
-use Rattle.std.proofs.Common.{◌∙◌, ◌-◌, List, length, take, drop, ap, arith, rules}
+use Rattle.std.proofs.Common.{◌≤◌, ◌∙◌, List, length, sym, ap, subst, arith}
+use Rattle.std.specs.List.{slice_range}
 use Rattle.patr_arena.specs.declared.value.Feature.{Feature}
 use Rattle.patr_arena.proofs.Cutting.{cut_length, cut_read}
 use Rattle.patr_arena.proofs.block.Block.arcs.Goals as goal
@@ -19,34 +20,12 @@ index-end-requires c =
     let below = c.requires in
     omega arith
 
-pub slice_bounds-result-count : goal.slice_bounds-result-count
-slice_bounds-result-count c =
+pub between-requires : goal.between-requires
+between-requires c =
     let read = cut_read c.self.inside.features.items c.self.inside.ends.items c.args.self.now c.args.offset c.start_of-start.result c.index-end.result.now _ c.self.invariant c.self.view_is c.requires c.deref.ensures.value c.start_of-start.ensures c.index-end.ensures in
-    read.0
-
-pub slice_bounds-result-start : goal.slice_bounds-result-start
-slice_bounds-result-start c =
-    let read = cut_read c.self.inside.features.items c.self.inside.ends.items c.args.self.now c.args.offset c.start_of-start.result c.index-end.result.now _ c.self.invariant c.self.view_is c.requires c.deref.ensures.value c.start_of-start.ensures c.index-end.ensures in
-    let order = read.0 in
-    search rules
-
-pub slice_bounds-result-end : goal.slice_bounds-result-end
-slice_bounds-result-end c =
-    let read = cut_read c.self.inside.features.items c.self.inside.ends.items c.args.self.now c.args.offset c.start_of-start.result c.index-end.result.now _ c.self.invariant c.self.view_is c.requires c.deref.ensures.value c.start_of-start.ensures c.index-end.ensures in
-    let most = read.1 in
-    let same = ap length c.deref-2.ensures.value in
-    search rules
-
-pub offset_bounds-deref-start : goal.offset_bounds-deref-start
-offset_bounds-deref-start c =
-    let read = cut_read c.self.inside.features.items c.self.inside.ends.items c.args.self.now c.args.offset c.start_of-start.result c.index-end.result.now _ c.self.invariant c.self.view_is c.requires c.deref.ensures.value c.start_of-start.ensures c.index-end.ensures in
-    let order = read.0 in
-    let most = read.1 in
-    let same = ap length c.deref-2.ensures.value in
-    let room = c.deref-2.type_inv.1 in
-    search rules
+    (read.0, subst (λ (fs : List Feature). c.index-end.result.now ≤ length fs) (sym c.deref-2.ensures.value) read.1)
 
 pub returns : goal.returns
 returns c =
     let read = cut_read c.self.inside.features.items c.self.inside.ends.items c.args.self.now c.args.offset c.start_of-start.result c.index-end.result.now _ c.self.invariant c.self.view_is c.requires c.deref.ensures.value c.start_of-start.ensures c.index-end.ensures in
-    ap (λ (fs : List Feature). take (c.index-end.result.now - c.start_of-start.result) (drop c.start_of-start.result fs)) c.deref-2.ensures.value ∙ read.2
+    c.between.ensures ∙ (ap (λ (fs : List Feature). slice_range fs c.start_of-start.result c.index-end.result.now) c.deref-2.ensures.value ∙ read.2)
