@@ -77,18 +77,10 @@ whole v rest all is none_left = sym (append-nil v.drawn) ∙ ap (λ r. v.drawn +
 
 pub returns-clause-total : goal.returns-clause-total
 returns-clause-total c =
-    let ended = c.in-None.ensures.steps.0 in
-    let same = whole c.loop-seat.pass.me.0 (into_iter_items c.loop-seat.seat-iterator) c.args.seats.items c.loop-seat.invariant.drawn (omega arith) in
-    c.total_of.ensures.total ∙ ap length same ∙ length-flat_map (λ (list : List ℕ). list) (map (λ (seat : Drawn). seat.numbers) c.args.seats.items)
+    c.total_of.ensures.total ∙ ap length (whole c.loop-seat.pass.me.0 (into_iter_items c.loop-seat.seat-iterator) c.args.seats.items c.loop-seat.invariant.drawn (omega (arith, c.in-None.ensures.steps.0))) ∙ length-flat_map (λ (list : List ℕ). list) (map (λ (seat : Drawn). seat.numbers) c.args.seats.items)
 
 pub returns-clause-once : goal.returns-clause-once
-returns-clause-once c =
-    let ended = c.in-None.ensures.steps.0 in
-    let same = whole c.loop-seat.pass.me.0 (into_iter_items c.loop-seat.seat-iterator) c.args.seats.items c.loop-seat.invariant.drawn (omega arith) in
-    λ x below. ap (times x) (sym same) ∙ c.total_of.ensures.once x below
+returns-clause-once c = λ x below. ap (times x) (sym (whole c.loop-seat.pass.me.0 (into_iter_items c.loop-seat.seat-iterator) c.args.seats.items c.loop-seat.invariant.drawn (omega (arith, c.in-None.ensures.steps.0)))) ∙ c.total_of.ensures.once x below
 
 pub returns-clause-no_other : goal.returns-clause-no_other
-returns-clause-no_other c =
-    let ended = c.in-None.ensures.steps.0 in
-    let same = whole c.loop-seat.pass.me.0 (into_iter_items c.loop-seat.seat-iterator) c.args.seats.items c.loop-seat.invariant.drawn (omega arith) in
-    λ x above. ap (times x) (sym same) ∙ c.total_of.ensures.no_other x above
+returns-clause-no_other c = λ x above. ap (times x) (sym (whole c.loop-seat.pass.me.0 (into_iter_items c.loop-seat.seat-iterator) c.args.seats.items c.loop-seat.invariant.drawn (omega (arith, c.in-None.ensures.steps.0)))) ∙ c.total_of.ensures.no_other x above
