@@ -5,7 +5,7 @@ use mathlib.Core.Logic.{dite}
 use mathlib.Core.Option.{none, some, some-ne-none, some-injective}
 use native.Mathlib.Decide.{dec_lt}
 use lib.ListN.{get_elem?}
-use Rattle.atomic_table.specs.Table.{State, Me, keeps, step, opening, Allows, Splits, Joins, Final, Seen}
+use Rattle.atomic_table.specs.Table.{Me, keeps, step, opening, Allows, Splits, Joins, Final, Seen}
 use Rattle.patr_claims.specs.declared.passes.PassView.{PassView}
 use Rattle.patr_claims.specs.Tasks.{times}
 use Rattle.patr_claims.specs.Passes.{pass_view, spent, with_number, one_fewer, one_seat, both, EachPass, AreShared}
