@@ -22,6 +22,7 @@ pub struct Scratch {
     arcs: Stack<ArcCell>,
     pairs: Stack<(Target, Target)>,
     visits: Stack<Place>,
+    goes_first: Side,
 }
 
 impl Model for Scratch {
@@ -91,7 +92,21 @@ impl Scratch {
             arcs: Stack::new(alloc),
             pairs: Stack::new(alloc),
             visits: Stack::new(alloc),
+            goes_first: Side::Right,
         }
+    }
+
+    /// The side whose place is forwarded where either of two places may be: what `set_goes_first` set last, and the
+    /// right side at first. No mark depends on it.
+    pub fn goes_first(&self) -> Side {
+        self.goes_first
+    }
+
+    /// Says which side's place is forwarded where either of two places may be. It stays so when a generation begins.
+    pub fn set_goes_first(&mut self, side: Side)
+        ensures { self.new ≡ self.old }
+    {
+        self.goes_first = side;
     }
 
     /// Takes room for places numbered below `table` on each side, for `nodes` visits, `arcs` added arcs and

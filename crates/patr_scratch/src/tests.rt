@@ -132,3 +132,13 @@ fn a_generation_sees_its_own_marks(rt: HostRuntime) -> Result<(), Fail> {
     }
     Ok(())
 }
+
+#[test]
+fn the_side_that_goes_first_stays(rt: HostRuntime) -> Result<(), Fail> {
+    let mut scratch = with_room(rt.alloc(), 1)?;
+    assert_eq!(rt; scratch.goes_first(), Side::Right);
+    scratch.set_goes_first(Side::Left);
+    scratch.begin();
+    assert_eq!(rt; scratch.goes_first(), Side::Left);
+    Ok(())
+}

@@ -31,15 +31,19 @@ fn same_place(a: Place, b: Place) -> bool
     same_side && a.block == b.block && a.offset == b.offset
 }
 
-/// Whether `first` is the one to be forwarded: the place with fewer own arcs, and of two with equally many the right
-/// side's. So what the result shares with the left side stays where it is. Either choice is sound.
-fn goes_first<N: Nodes>(nodes: &N, first: Place, second: Place) -> bool
+/// Whether `first` is the one to be forwarded; no promise rests on it. Of two places at one address the right side's:
+/// otherwise the node could not stay where it is. Else the one with fewer own arcs, and of two with equally many that
+/// of the side that the scratch names.
+fn goes_first<N: Nodes>(nodes: &N, scratch: &Scratch, first: Place, second: Place) -> bool
     requires first { IsHeld (N.shown nodes.now) first.block first.offset }
     requires second { IsHeld (N.shown nodes.now) second.block second.offset }
 {
+    if address(first) == address(second) {
+        return first.side == Side::Right;
+    }
     let of_first = nodes.arcs(address(first)).len();
     let of_second = nodes.arcs(address(second)).len();
-    of_first < of_second || (of_first == of_second && first.side == Side::Right)
+    of_first < of_second || (of_first == of_second && first.side == scratch.goes_first())
 }
 
 /// Whether the place has neither an own nor an added arc.
@@ -92,7 +96,7 @@ pub(crate) fn unify_pair<N: Nodes>(nodes: &N, a: Target, b: Target, scratch: &mu
                 if same_place(first, second) {
                     return true;
                 }
-                if goes_first(nodes, first, second) {
+                if goes_first(nodes, scratch, first, second) {
                     merge(nodes, first, second, scratch);
                 } else {
                     merge(nodes, second, first, scratch);
