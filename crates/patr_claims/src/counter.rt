@@ -1,15 +1,17 @@
 //! A desk whose tasks are drawn from one counter.
 ghost use Rattle.std.specs.Prelude.{◌≡◌, ◌≢◌, ℕ, ◌<◌, ◌≤◌, ◌^◌, Bool, true, false, cond, List, [], ◌∷◌, ◌++◌, All, length, map, IfOk, IfSome, IfNone, MatchOption, vec_capacity};
-ghost use Rattle.patr_claims.specs.Counting.{desk_view, IsDraw};
+ghost use Rattle.patr_claims.specs.Counting.{IsDraw};
+ghost use Rattle.patr_claims.specs.Passes.{pass_view};
 ghost use Rattle.patr_claims.specs.Tasks.{all_of, IsTaken, NoneTwice, EachBelow, NoneFrom};
 
 use crate::Memory;
-use crate::counting::{DeskRule, DeskSize, DeskView, DrawTask, JoinSeats, SplitSeat};
+use crate::counting::{DeskRule, DeskSize, DrawTask};
 use crate::desk::Desk;
+use crate::passes::{JoinSeats, PassView, SplitSeat};
 use atomic_table::{Seat, Table};
 use std::alloc::Global;
 
-type DeskTable = Table<(), DeskView, DeskSize, DeskRule, Global>;
+type DeskTable = Table<(), PassView, DeskSize, DeskRule, Global>;
 
 /// A desk whose tasks are drawn in rising order from one word, whoever draws.
 #[derive(Drop)]
@@ -27,17 +29,17 @@ pub struct CounterDesk {
 /// A worker's place at a [`CounterDesk`]. Its list has room for each task.
 #[derive(Drop)]
 pub struct CounterSeat {
-    pass: Seat<(), DeskView>,
+    pass: Seat<(), PassView>,
     tasks: u64,
     taken: Vec<u64>,
     seen_none: bool,
-    ghost knows: { pass.me ≡ (desk_view tasks 1 taken.items (cond seen_none 1 0), []) },
+    ghost knows: { pass.me ≡ (pass_view tasks 1 taken.items (cond seen_none 1 0), []) },
     ghost room: { tasks ≤ vec_capacity taken },
 }
 
 impl CounterSeat {
-    fn of(pass: Seat<(), DeskView>, tasks: u64, taken: Vec<u64>) -> CounterSeat
-        requires pass { pass.me ≡ (desk_view tasks 1 [] 0, []) }
+    fn of(pass: Seat<(), PassView>, tasks: u64, taken: Vec<u64>) -> CounterSeat
+        requires pass { pass.me ≡ (pass_view tasks 1 [] 0, []) }
         requires taken { (taken.items ≡ []) × (tasks ≤ vec_capacity taken) }
         ensures { (result.pass.table_id ≡ pass.table_id) × (result.tasks ≡ tasks) × (result.taken.items ≡ []) × (result.seen_none ≡ false) }
     {
@@ -74,9 +76,9 @@ impl CounterSeat {
 // The seats that have come back: one pass that stands for them all, and their lists.
 #[derive(Drop)]
 struct Gathered {
-    pass: Seat<(), DeskView>,
+    pass: Seat<(), PassView>,
     lists: Vec<Vec<u64>>,
-    ghost knows: { pass.me ≡ (desk_view pass.me.0.tasks (length lists.items) (all_of (map (λ list. list.items) lists.items)) pass.me.0.notes, []) },
+    ghost knows: { pass.me ≡ (pass_view pass.me.0.tasks (length lists.items) (all_of (map (λ list. list.items) lists.items)) pass.me.0.notes, []) },
     ghost some_seat: { 0 < length lists.items },
 }
 
@@ -87,12 +89,7 @@ impl Gathered {
         ensures lists { map (λ list. list.items) result.lists.items ≡ seat.taken.items ∷ [] }
         ensures room { vec_capacity result.lists ≡ vec_capacity lists }
     {
-        let CounterSeat {
-            pass,
-            tasks: _,
-            taken,
-            seen_none: _,
-        } = seat;
+        let CounterSeat { pass, taken, .. } = seat;
         lists.push_reserved(taken);
         Gathered { pass, lists }
     }
@@ -106,12 +103,7 @@ impl Gathered {
         ensures lists { map (λ list. list.items) self.new.lists.items ≡ map (λ list. list.items) self.old.lists.items ++ seat.taken.items ∷ [] }
         ensures room { vec_capacity self.new.lists ≡ vec_capacity self.old.lists }
     {
-        let CounterSeat {
-            pass,
-            tasks: _,
-            taken,
-            seen_none: _,
-        } = seat;
+        let CounterSeat { pass, taken, .. } = seat;
         table.shared.join_seat::<JoinSeats>(&mut self.pass, pass);
         self.lists.push_reserved(taken);
     }
@@ -211,12 +203,7 @@ impl Desk for CounterDesk {
         ensures no_other { NoneFrom self.tasks (map (λ seat. seat.taken.items) seats.items) }
         ensures every { All (λ seat. seat.seen_none ≡ true) seats.items → EachBelow self.tasks (map (λ seat. seat.taken.items) seats.items) }
     {
-        let CounterDesk {
-            table,
-            tasks: _,
-            seats: _,
-            lists,
-        } = self;
+        let CounterDesk { table, lists, .. } = self;
         let mut rest = seats.into_iter();
         let Some(first) = rest.next() else {
             return lists;

@@ -1,16 +1,18 @@
 //! Tickets: numbers that several seats draw, each once and none left out.
 ghost use Rattle.std.specs.Prelude.{◌≡◌, ℕ, ◌+◌, ◌<◌, ◌≤◌, ◌^◌, List, [], ◌∷◌, ◌++◌, All, length, map, sum_by, IfOk};
 ghost use Rattle.patr_claims.specs.Tasks.{times, EachBelow, NoneFrom};
-ghost use Rattle.patr_claims.specs.Ticketing.{Drawn, Issued, ticket_view};
+ghost use Rattle.patr_claims.specs.Passes.{pass_view};
+ghost use Rattle.patr_claims.specs.Ticketing.{Drawn, Issued};
 ghost use Rattle.std.specs.List.Sorted.{IsStrictlyIncreasing};
 
 use crate::Memory;
-use crate::ticketing::{DrawTicket, JoinTicketSeats, SplitTicketSeat, TicketRule, TicketView};
+use crate::passes::{JoinSeats, PassView, SplitSeat};
+use crate::ticketing::{DrawTicket, TicketRule};
 use atomic_table::{Seat, Table};
 use std::alloc::Global;
 use std::marker::Model;
 
-type TicketTable = Table<(), TicketView, u64, TicketRule, Global>;
+type TicketTable = Table<(), PassView, u64, TicketRule, Global>;
 
 /// Tickets are the numbers from 0 on.
 #[derive(Drop)]
@@ -33,24 +35,25 @@ impl Model for Tickets {
 /// A worker's place at the [`Tickets`]. What it drew rises.
 #[derive(Drop)]
 pub struct TicketSeat {
-    pass: Seat<(), TicketView>,
+    pass: Seat<(), PassView>,
 }
 
 impl Model for TicketSeat {
     ghost use Rattle.std.specs.Prelude.{◌≡◌, []};
     ghost use Rattle.std.specs.List.Sorted.{IsStrictlyIncreasing};
-    ghost use Rattle.patr_claims.specs.Ticketing.{Drawn, ticket_view};
+    ghost use Rattle.patr_claims.specs.Passes.{pass_view};
+    ghost use Rattle.patr_claims.specs.Ticketing.{Drawn};
 
     ghost Value = { Drawn };
 
     ghost view = { λ s. record { table = s.pass.table_id; numbers = s.pass.me.0.drawn } };
 
-    ghost invariant = { λ s. (s.pass.me ≡ (ticket_view 1 s.pass.me.0.drawn, [])) × IsStrictlyIncreasing s.pass.me.0.drawn };
+    ghost invariant = { λ s. (s.pass.me ≡ (pass_view 0 1 s.pass.me.0.drawn 0, [])) × IsStrictlyIncreasing s.pass.me.0.drawn };
 }
 
 impl TicketSeat {
-    fn of(pass: Seat<(), TicketView>) -> TicketSeat
-        requires { pass.me ≡ (ticket_view 1 [], []) }
+    fn of(pass: Seat<(), PassView>) -> TicketSeat
+        requires { pass.me ≡ (pass_view 0 1 [] 0, []) }
         ensures { (result.table ≡ pass.table_id) × (result.numbers ≡ []) }
     {
         TicketSeat { pass }
@@ -68,7 +71,7 @@ impl Tickets {
         let mut made = Vec::with_capacity(alloc, seats as usize)?;
         let (table, mut pass) = TicketTable::of_words(alloc, &[0], &u64::from(seats))?;
         for _ in 1..seats {
-            let one = table.shared.split_seat::<SplitTicketSeat>(&mut pass);
+            let one = table.shared.split_seat::<SplitSeat>(&mut pass);
             made.push_reserved(TicketSeat::of(one));
         }
         made.push_reserved(TicketSeat::of(pass));
@@ -106,14 +109,14 @@ impl Tickets {
         let TicketSeat { mut pass } = first;
         for seat in rest {
             let TicketSeat { pass: other } = seat;
-            table.shared.join_seat::<JoinTicketSeats>(&mut pass, other);
+            table.shared.join_seat::<JoinSeats>(&mut pass, other);
         }
         total_of(table, pass)
     }
 }
 
 // The number of tickets, from the pass that stands for all seats.
-fn total_of(table: TicketTable, pass: Seat<(), TicketView>) -> u64
+fn total_of(table: TicketTable, pass: Seat<(), PassView>) -> u64
     requires here { pass.table_id ≡ table.shared.table_id }
     requires word { (table.shared.table_id.words ≡ 1) × (table.shared.table_id.slots ≡ 0) }
     requires all { pass.me.0.seats ≡ table.shared.key }

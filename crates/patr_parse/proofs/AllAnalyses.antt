@@ -6,7 +6,7 @@ use Rattle.std.proofs.lemmas.List.Elements.{All-from_recursion, recursion_from_A
 use Rattle.std.proofs.lemmas.List.Sorted.{All-permutation, IsPermutation-sym, sum_by-IsPermutation}
 use Rattle.std.proofs.lemmas.List.Sums.{sum_by-cons}
 use Rattle.std.proofs.lemmas.Option.{slice_get_within}
-use Rattle.patr_lists.proofs.Members.{one_place}
+use Rattle.patr_lists.proofs.Members.{in_map, one_place}
 use Rattle.patr_lists.proofs.Alls.{all_weaker, all_of}
 use Rattle.patr_lists.specs.Members.{IsIn}
 use Rattle.patr_lists.specs.Numbers.{places}
@@ -14,12 +14,15 @@ use Rattle.patr_parse.proofs.Names.{Rules, Derivation, Begin, IsChart, Shown, Ed
 use Rattle.patr_model.specs.Derivation.{key}
 use Rattle.patr_model.specs.Chart.{IsAnalysis}
 use Rattle.patr_model.specs.Laws.{StatesCategories}
+use Rattle.patr_model.specs.Session.{Rises}
 use Rattle.patr_model.specs.Solved.{solved}
 use Rattle.patr_model.proofs.Keys.{keys_tell}
+use Rattle.patr_model.proofs.Shared.{one_if, count}
 use Rattle.patr_model.proofs.Prediction.{prediction_drops_none}
 use Rattle.patr_chart.specs.Charted.{tree}
 use Rattle.patr_library.specs.Stored.{HasItems}
-use Rattle.patr_parse.proofs.Picked.{tally, times, places_once}
+use Rattle.patr_parse.proofs.Numbers.{has_at}
+use Rattle.patr_parse.proofs.Picked.{places_once}
 use Rattle.patr_parse.proofs.Ordered.{analysis_cmp, adjacent, rises}
 use Rattle.patr_parse.proofs.Tasks.{trees_length}
 use Rattle.patr_parse.proofs.WholeEdges.{edge_of_tree, have_least, edge_is_analysis, analysis_passes}
@@ -37,16 +40,16 @@ of_trees : (es : List Edge) (P : Derivation → Type 0) (ns : List ℕ) → AllB
 of_trees es P [] h = tt
 of_trees es P (n ∷ ns) h = (h.0, of_trees es P ns h.1)
 
-tallied : (n : ℕ) (cs : List Analysis) → sum_by (λ a. tally (nat_eq (edge_of a) n)) cs ≡ times n (map edge_of cs)
+tallied : (n : ℕ) (cs : List Analysis) → sum_by (λ a. one_if (nat_eq n (edge_of a))) cs ≡ count n (map edge_of cs)
 tallied n [] = refl
-tallied n (a ∷ cs) = sum_by-cons (λ x. tally (nat_eq (edge_of x) n)) a cs ∙ ap (λ k. tally (nat_eq (edge_of a) n) + k) (tallied n cs)
+tallied n (a ∷ cs) = sum_by-cons (λ x. one_if (nat_eq n (edge_of x))) a cs ∙ ap (λ k. one_if (nat_eq n (edge_of a)) + k) (tallied n cs)
 
 module _ (xs ys : List Analysis) (moved : IsPermutation xs ys) where
   moved_all : (P : Analysis → Type 0) → AllByRecursion P xs → AllByRecursion P ys
   moved_all P h = recursion_from_All P ys (All-permutation P xs ys moved (All-from_recursion P xs h))
 
-  moved_times : (n : ℕ) → times n (map edge_of ys) ≡ times n (map edge_of xs)
-  moved_times n = sym (tallied n ys) ∙ (sum_by-IsPermutation (λ a. tally (nat_eq (edge_of a) n)) xs ys moved ∙ tallied n xs)
+  moved_count : (n : ℕ) → count n (map edge_of ys) ≡ count n (map edge_of xs)
+  moved_count n = sym (tallied n ys) ∙ (sum_by-IsPermutation (λ a. one_if (nat_eq n (edge_of a))) xs ys moved ∙ tallied n xs)
 
 own_trees : (es : List Edge) (ts : List Derivation) (cs : List Analysis) → ((t : Derivation) → IsIn (map (tree es) (map edge_of cs)) t → IsIn ts t)
     → AllByRecursion (λ a. IsIn ts (tree es (edge_of a))) cs
@@ -91,14 +94,30 @@ module _ (g : Rules) (s : Stored) (items : HasItems g s.shown s.rules s.entries)
       let passes = analysis_passes g s items v words es all sound keys.cat ws chart refl e.0 e.1 e.2 (subst (λ u. IsAnalysis (solved g keys.cat) g ws u) (sym e.3) h) in
       (e.0, subst (λ n. Contains found n) (omega arith) (passes_placed (is_whole v (length ws) g.start) 0 es e.0 e.1 e.2 passes), e.3)
 
+  -- those of the found edges, in an order in which their keys rise
+  all_found : StatesCategories g keys.cat → (ns : List ℕ) → AllByRecursion IsGood ns → Rises (map (tree es) ns) → ((k : ℕ) → Contains found k → IsIn (map (tree es) ns) (tree es k)) → AreAll g keys.cat ws es ns
+  all_found states ns good rising there = record {
+    within = all_weaker IsGood (λ k. suc k ≤ length es) (λ k h. h.0) ns good;
+    rises = rising;
+    each = of_trees es (IsAnalysis (solved g keys.cat) g ws) ns (all_weaker IsGood (λ k. IsAnalysis (solved g keys.cat) g ws (tree es k)) (λ k h. h.1) ns good);
+    every = λ t h. let k = has_every states t h in subst (λ u. IsIn (map (tree es) ns) u) k.2 (there k.0 k.1);
+  }
+
   pub are_all : StatesCategories g keys.cat → (xs ys : List Analysis) → map edge_of xs ≡ found → AllByRecursion (HasKey es) xs → IsPermutation xs ys → IsSorted analysis_cmp ys
       → AreAll g keys.cat ws es (map edge_of ys)
   are_all states xs ys is has_keys moved sorted =
       let good = of_edges IsGood ys (moved_all xs ys moved (λ a. IsGood (edge_of a)) (by_edge IsGood xs (subst (AllByRecursion IsGood) (sym is) (all_of IsGood found is_good)))) in
-      record {
-        within = all_weaker IsGood (λ k. suc k ≤ length es) (λ k h. h.0) (map edge_of ys) good;
-        rises = rises es IsGood told ys (adjacent ys sorted) (moved_all xs ys moved (HasKey es) has_keys) good (λ n. omega (arith, moved_times xs ys moved n, ap (times n) is, places_once (is_whole v (length ws) g.start) n 0 es));
-        each = of_trees es (IsAnalysis (solved g keys.cat) g ws) (map edge_of ys) (all_weaker IsGood (λ k. IsAnalysis (solved g keys.cat) g ws (tree es k)) (λ k h. h.1) (map edge_of ys) good);
-        every = λ t h. let k = has_every states t h in
-            subst (λ u. IsIn (map (tree es) (map edge_of ys)) u) k.2 (moved_tree es xs ys moved k.0 (subst (λ ns. Contains ns k.0) (sym is) k.1));
-      }
+      all_found states (map edge_of ys) good
+      (rises es IsGood told ys (adjacent ys sorted) (moved_all xs ys moved (HasKey es) has_keys) good (λ n. omega (arith, moved_count xs ys moved n, ap (count n) is, places_once (is_whole v (length ws) g.start) n 0 es)))
+      (λ k h. moved_tree es xs ys moved k (subst (λ ns. Contains ns k) (sym is) h))
+
+  -- one edge, or none, needs no sorting
+  pub is_all : StatesCategories g keys.cat → (ns : List ℕ) → ns ≡ found → length ns ≤ 1 → AreAll g keys.cat ws es ns
+  is_all states ns is few =
+      all_found states ns (subst (AllByRecursion IsGood) (sym is) (all_of IsGood found is_good)) (few_rise ns few)
+      (λ k h. let at = subst (λ l. Contains l k) (sym is) h in in_map (tree es) ns k (subst (IsIn ns) at.2 (has_at ns at.0 k at.1)))
+    where
+      few_rise : (ns : List ℕ) → length ns ≤ 1 → Rises (map (tree es) ns)
+      few_rise [] h = tt
+      few_rise (n ∷ []) h = tt
+      few_rise (n ∷ m ∷ ns) h = absurd (omega (arith, h))

@@ -7,13 +7,14 @@ use Rattle.std.specs.List.{AllByRecursion}
 use Rattle.std.specs.List.Sorted.{IsSorted}
 use Rattle.patr_parse.proofs.Names.{Edge, Analysis, HasKey, edge_of}
 use Rattle.patr_model.specs.Derivation.{key}
+use Rattle.patr_model.proofs.Shared.{count}
 use Rattle.patr_model.specs.Session.{number_before, numbers, Rises}
 use Rattle.patr_chart.specs.declared.key.KeyItem.{KeyItem}
 use Rattle.patr_chart.specs.Edges.{item_of}
 use Rattle.patr_chart.specs.Charted.{tree}
 use Rattle.patr_chart.specs.Orders.{IsOrderOf}
 use Rattle.patr_chart.proofs.Ordered.{are_ordered, item_cmp}
-use Rattle.patr_parse.proofs.Picked.{times, times_two, times_rest}
+use Rattle.patr_parse.proofs.Picked.{count_two, count_rest}
 
 abbrev pub analysis_cmp : Analysis → Analysis → Ordering
 analysis_cmp a b = ordering_then (slice_cmp item_cmp a.key.items b.key.items) (nat_cmp a.edge b.edge)
@@ -47,16 +48,16 @@ adjacent (a ∷ b ∷ cs) h = (h 0 a (omega arith) (omega arith), adjacent (b �
 
 -- where equal keys are those of one edge, and no edge stands twice, keys rise
 module _ (es : List Edge) (P : ℕ → Type 0) (told : (k l : ℕ) → P k → P l → key (tree es k) ≡ key (tree es l) → k ≡ l) where
-  pub rises : (cs : List Analysis) → Adjacent cs → AllByRecursion (HasKey es) cs → AllByRecursion P (map edge_of cs) → ((n : ℕ) → times n (map edge_of cs) ≤ 1)
+  pub rises : (cs : List Analysis) → Adjacent cs → AllByRecursion (HasKey es) cs → AllByRecursion P (map edge_of cs) → ((n : ℕ) → count n (map edge_of cs) ≤ 1)
       → Rises (map (tree es) (map edge_of cs))
   rises [] next keys all once = tt
   rises (a ∷ []) next keys all once = tt
   rises (a ∷ b ∷ cs) next keys all once = (
     first (in_order a.key.items b.key.items (nat_cmp b.edge a.edge) next.0),
-    rises (b ∷ cs) next.1 keys.1 all.1 (λ n. times_rest n a.edge (map edge_of (b ∷ cs)) (once n)),
+    rises (b ∷ cs) next.1 keys.1 all.1 (λ n. count_rest n a.edge (map edge_of (b ∷ cs)) (once n)),
   )
     where
       first : number_before (numbers (map item_of a.key.items)) (numbers (map item_of b.key.items)) ⊎ (b.key.items ≡ a.key.items)
           → number_before (numbers (key (tree es a.edge))) (numbers (key (tree es b.edge)))
       first (inl h) = subst (λ x. number_before (numbers x) (numbers (key (tree es b.edge)))) keys.0 (subst (λ y. number_before (numbers (map item_of a.key.items)) (numbers y)) keys.1.0 h)
-      first (inr h) = absurd (times_two a.edge b.edge (map edge_of cs) (told a.edge b.edge all.0 all.1.0 (sym keys.0 ∙ (ap (map item_of) (sym h) ∙ keys.1.0))) (once a.edge))
+      first (inr h) = absurd (count_two a.edge b.edge (map edge_of cs) (told a.edge b.edge all.0 all.1.0 (sym keys.0 ∙ (ap (map item_of) (sym h) ∙ keys.1.0))) (once a.edge))

@@ -1,5 +1,5 @@
 //! The analyses of a sentence: the whole edges of its closed chart with the start symbol, sorted by their keys.
-ghost use Rattle.std.specs.Prelude.{◌≡◌, ◌∷◌, [], ◌≤◌, length, map, IfOk};
+ghost use Rattle.std.specs.Prelude.{◌≡◌, ◌∷◌, [], ℕ, ◌<◌, ◌≤◌, get_or, length, map, IfOk};
 ghost use Rattle.std.specs.List.{AllByRecursion};
 ghost use Rattle.patr_lists.specs.Numbers.{places};
 ghost use Rattle.patr_arena.specs.Paths.{ids};
@@ -51,26 +51,39 @@ fn is_whole(view: &View<'_>, edge: &Edge, end: u32, category: Id) -> bool
     starts_at_first(edge) && edge.end == end && has_category(view, edge.root, category)
 }
 
-// The complete edges of the start symbol over the first words, with their keys.
+// The numbers of the complete edges of the start symbol over the first words.
 fn whole_edges(
     alloc: Global,
     chart: &Chart,
     view: &View<'_>,
     end: u32,
     category: Id,
-) -> Result<Vec<Analysis>, Memory>
+) -> Result<Vec<u32>, Memory>
     requires { RootsAreHeld (view_of view.now) chart.now.edges }
-    ensures edges { IfOk result (λ found. map edge_of found.items ≡ places (is_whole (view_of
-        view.now) end category.0) 0 chart.now.edges) }
-    ensures keys { IfOk result (λ found. AllByRecursion (HasKey chart.now.edges) found.items) }
+    ensures edges { IfOk result (λ found. found.items ≡ places (is_whole (view_of view.now) end
+        category.0) 0 chart.now.edges) }
     ensures chart { IfOk result (λ _. AreEdges chart.now.words chart.now.edges) }
 {
     let mut found = Vec::new(alloc);
     for number in 0..chart.len() {
         if is_whole(view, chart.edge(number), end, category) {
-            let key = chart.derivation(alloc, number)?;
-            found.push(Analysis { key, edge: number })?;
+            found.push(number)?;
         }
+    }
+    Ok(found)
+}
+
+// These edges with their keys.
+fn with_keys(alloc: Global, chart: &Chart, edges: &[u32]) -> Result<Vec<Analysis>, Memory>
+    requires { (i : ℕ) → i < length edges.now → get_or edges.now i 0 < length chart.now.edges }
+    ensures edges { IfOk result (λ found. map edge_of found.items ≡ edges.now) }
+    ensures keys { IfOk result (λ found. AllByRecursion (HasKey chart.now.edges) found.items) }
+{
+    let mut found = Vec::with_capacity(alloc, edges.len())?;
+    for number in edges {
+        let edge = *number;
+        let key = chart.derivation(alloc, edge)?;
+        found.push(Analysis { key, edge })?;
     }
     Ok(found)
 }
@@ -99,7 +112,11 @@ pub(crate) fn analyses_of(
         chart.now.edges found.items) }
 {
     let end = words.len() as u32;
-    let mut found = whole_edges(alloc, chart, view, end, library.grammar().start)?;
+    let edges = whole_edges(alloc, chart, view, end, library.grammar().start)?;
+    if edges.len() <= 1 {
+        return Ok(edges);
+    }
+    let mut found = with_keys(alloc, chart, &edges)?;
     found.sort_unstable();
     edges_of(alloc, &found)
 }

@@ -57,7 +57,7 @@ pub(crate) fn root_for<N: Nodes>(nodes: &N, kind: EdgeKind, slots: Value) -> Val
 }
 
 /// Puts a unifier's nodes behind the others, and answers what stands for an edge of this kind.
-fn place(
+fn store_unifier(
     arena: &mut SentenceArena<'_>,
     block: Block,
     root: Ref,
@@ -99,7 +99,7 @@ pub(crate) fn push_draft(
     ensures words { IfOk result (λ _. chart.new.words ≡ chart.old.words) }
 {
     let edge = draft.edge;
-    let root = place(arena, draft.block, draft.root, edge.kind)?;
+    let root = store_unifier(arena, draft.block, draft.root, edge.kind)?;
     let Ok(_) = chart.push_edge(Edge { root, ..edge }) else {
         return Err(AllocError);
     };

@@ -17,7 +17,7 @@ use crate::draft::Draft;
 use patr_arena::{Addr, Id, Memory, Nodes, Value};
 use patr_chart::{Back, Chart, Edge, EdgeKind};
 use patr_library::Library;
-use patr_scratch::Scratch;
+use patr_scratch::{Scratch, Side};
 use patr_unify::{Decision, Steps, copy, decide};
 use std::alloc::{AllocError, Global};
 use std::marker::Brand;
@@ -87,6 +87,16 @@ fn reach_of(first: &Edge, second: &Edge) -> Result<Reach, Memory>
     let nodes = first.nodes.checked_add(second.nodes).ok_or(AllocError)?;
     let arcs = first.arcs.checked_add(second.arcs).ok_or(AllocError)?;
     Ok(Reach { nodes, arcs })
+}
+
+/// The side whose node is forwarded where either may be: that of the edge that reaches no more. So of a long structure
+/// and a short one that have a node in common the long one stays where it is. No promise rests on it.
+fn smaller_side(active: &Edge, passive: &Edge) -> Side {
+    if passive.nodes <= active.nodes {
+        Side::Right
+    } else {
+        Side::Left
+    }
 }
 
 /// Whether a pair has a unifier. Then the marks in the scratch stand for it.
@@ -176,6 +186,7 @@ impl<'r, N: Nodes> RoundWork<'r, N> {
             right: second.root,
             reach: reach_of(&first, &second)?,
         };
+        scratch.set_goes_first(smaller_side(&first, &second));
         if !has_unifier(self.nodes, place, scratch, steps)? {
             return Ok(Outcome::Nothing);
         }

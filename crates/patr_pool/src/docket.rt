@@ -34,7 +34,8 @@ impl Docket {
 
     // The tasks of these lists more.
     pub(crate) fn add(&mut self, lists: &Vec<Vec<u64>>)
-        ensures { self.new ≡ min (self.old + sum_by (λ list. vec_len list) lists.now.items) (2 ^ 64 - 1) }
+        ensures { self.new ≡ min (self.old + sum_by (λ list. vec_len list) lists.now.items)
+            (2 ^ 64 - 1) }
     {
         let mut tasks = self.tasks;
         for list in lists {

@@ -20,7 +20,8 @@ pub struct Gathered<S, L, T> {
 
 /// Nothing yet.
 pub fn none_yet<S, L, T>(alloc: Global) -> Gathered<S, L, T>
-    ensures { (result.seats.items ≡ []) × (result.locals.items ≡ []) × (result.yields.items ≡ []) × (result.stopped ≡ false) }
+    ensures { (result.seats.items ≡ []) × (result.locals.items ≡ []) × (result.yields.items ≡ []) ×
+        (result.stopped ≡ false) }
 {
     Gathered {
         seats: Vec::new(alloc),
@@ -37,9 +38,12 @@ pub fn add<D: Desk, W: Work>(
     all: &mut Gathered<D::Seat, W::Local, W::Out>,
     ran: Ran<D::Seat, W::Local, W::Out>,
 ) -> Result<(), Memory>
-    requires ran { IsRun (D.is_seat desk.now) D.taken D.has_seen_none (W.first_fact work.now) (W.second_fact work.now) ran }
-    requires all { AreGathered (D.is_seat desk.now) D.taken D.has_seen_none (W.first_fact work.now) (W.second_fact work.now) all.old }
-    ensures all { OnOk result (AreGathered (D.is_seat desk.now) D.taken D.has_seen_none (W.first_fact work.now) (W.second_fact work.now) all.new) }
+    requires ran { IsRun (D.is_seat desk.now) D.taken D.has_seen_none (W.first_fact work.now)
+        (W.second_fact work.now) ran }
+    requires all { AreGathered (D.is_seat desk.now) D.taken D.has_seen_none (W.first_fact work.now)
+        (W.second_fact work.now) all.old }
+    ensures all { OnOk result (AreGathered (D.is_seat desk.now) D.taken D.has_seen_none
+        (W.first_fact work.now) (W.second_fact work.now) all.new) }
     ensures count { OnOk result (length all.new.seats.items ≡ length all.old.seats.items + 1) }
 {
     let Ran {
@@ -67,8 +71,10 @@ fn ran_of<D: Desk, W: Work>(
     work: &W,
     worker: Worker<D::Seat, W::Local, W::Out>,
 ) -> Result<Ran<D::Seat, W::Local, W::Out>, Memory>
-    requires { HasRun (D.is_seat desk.now) D.taken D.has_seen_none (W.first_fact work.now) (W.second_fact work.now) worker }
-    ensures { IfOk result (IsRun (D.is_seat desk.now) D.taken D.has_seen_none (W.first_fact work.now) (W.second_fact work.now)) }
+    requires { HasRun (D.is_seat desk.now) D.taken D.has_seen_none (W.first_fact work.now)
+        (W.second_fact work.now) worker }
+    ensures { IfOk result (IsRun (D.is_seat desk.now) D.taken D.has_seen_none
+        (W.first_fact work.now) (W.second_fact work.now)) }
 {
     let _ = desk;
     let _ = work;
@@ -87,8 +93,10 @@ pub fn gather<D: Desk, W: Work>(
     work: &W,
     workers: Vec<Worker<D::Seat, W::Local, W::Out>>,
 ) -> Result<Gathered<D::Seat, W::Local, W::Out>, Memory>
-    requires { All (HasRun (D.is_seat desk.now) D.taken D.has_seen_none (W.first_fact work.now) (W.second_fact work.now)) workers.items }
-    ensures runs { IfOk result (AreGathered (D.is_seat desk.now) D.taken D.has_seen_none (W.first_fact work.now) (W.second_fact work.now)) }
+    requires { All (HasRun (D.is_seat desk.now) D.taken D.has_seen_none (W.first_fact work.now)
+        (W.second_fact work.now)) workers.items }
+    ensures runs { IfOk result (AreGathered (D.is_seat desk.now) D.taken D.has_seen_none
+        (W.first_fact work.now) (W.second_fact work.now)) }
     ensures count { IfOk result (λ all. length all.seats.items ≡ length workers.items) }
 {
     let mut all = none_yet(alloc);

@@ -38,7 +38,8 @@ fn finish<D: Desk, W: Work>(
     of: u64,
     all: Gathered<D::Seat, W::Local, W::Out>,
 ) -> Result<Round<W::Local, W::Out>, Memory>
-    requires runs { AreGathered (D.is_seat desk) D.taken D.has_seen_none (W.first_fact work.now) (W.second_fact work.now) all }
+    requires runs { AreGathered (D.is_seat desk) D.taken D.has_seen_none (W.first_fact work.now)
+        (W.second_fact work.now) all }
     requires all { length all.seats.items ≡ D.seat_count desk }
     requires tasks { of ≡ D.tasks desk }
     ensures { IfOk result (IsRound of (W.first_fact work.now) (W.second_fact work.now)) }
@@ -61,7 +62,7 @@ fn finish<D: Desk, W: Work>(
 
 // What one worker does, as several workers would.
 #[derive(Drop)]
-struct Alone<'a, W>(&'a W);
+pub(crate) struct Alone<'a, W>(pub(crate) &'a W);
 
 impl<'a, W: LoneWork> Work for Alone<'a, W> {
     type Local = W::Local;
@@ -96,7 +97,8 @@ pub fn run_alone<D: Desk, G: Gate, W: LoneWork>(
     work: &W,
 ) -> Result<Round<W::Local, W::Out>, Memory>
     requires count { D.seat_count desk ≡ 1 }
-    requires ready { IsReady (D.is_seat desk) D.taken D.has_seen_none (W.second_fact work.now) seat local }
+    requires ready { IsReady (D.is_seat desk) D.taken D.has_seen_none
+        (W.second_fact work.now) seat local }
     requires tasks { (of ≡ D.tasks desk) × (of ≡ W.tasks work.now) }
     ensures { IfOk result (IsRound of (W.first_fact work.now) (W.second_fact work.now)) }
 {
@@ -122,12 +124,15 @@ pub fn run_round<D: Desk, G: Gate + Sync, W: Work + Sync, R: Threads + Wait + Sy
     work: &W,
     docket: &mut Docket,
 ) -> Result<Round<W::Local, W::Out>, Memory>
-    requires count { (length seats.items ≡ length locals.items) × (length seats.items ≡ D.seat_count desk) }
-    requires seats { All (λ seat. D.is_seat desk seat × (D.taken seat ≡ []) × (D.has_seen_none seat ≡ false)) seats.items }
+    requires count { (length seats.items ≡ length locals.items) ×
+        (length seats.items ≡ D.seat_count desk) }
+    requires seats { All (λ seat. D.is_seat desk seat × (D.taken seat ≡ []) ×
+        (D.has_seen_none seat ≡ false)) seats.items }
     requires locals { All (W.second_fact work.now [] false) locals.items }
     requires tasks { (of ≡ D.tasks desk) × (of ≡ W.tasks work.now) }
     ensures round { IfOk result (IsRound of (W.first_fact work.now) (W.second_fact work.now)) }
-    ensures docket { IfOk result (λ round. docket.new ≡ min (docket.old + tasks_in round) (2 ^ 64 - 1)) }
+    ensures docket { IfOk result (λ round. docket.new ≡ min (docket.old + tasks_in round)
+        (2 ^ 64 - 1)) }
     ensures kept { IfErr result (λ _. docket.new ≡ docket.old) }
 {
     let mut workers = workers_of(alloc, &desk, work, seats, locals)?;

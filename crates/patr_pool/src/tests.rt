@@ -1,6 +1,7 @@
 ghost use Rattle.std.specs.Prelude.{◌≡◌, ◌+◌, ◌<◌, ◌≤◌, ◌^◌, IfOk, length};
 ghost use Rattle.patr_pool.specs.declared.work.Outcome.TheVariants.{Made};
 
+use crate::round::Alone;
 use crate::{Docket, Gate, LoneWork, Memory, OpenGate, Outcome, Round, Work, run_alone, run_round};
 use patr_claims::CounterDesk;
 use std::alloc::Global;
@@ -14,29 +15,6 @@ use std::thread::Threads;
 #[derive(Clone, Copy)]
 struct OneMore {
     tasks: u64,
-}
-
-impl Work for OneMore {
-    type Local = ();
-
-    type Out = u64;
-
-    ghost tasks = { λ it. it.tasks };
-
-    ghost first_fact = { λ _ task outcome. outcome ≡ Made (task + 1) };
-
-    ghost second_fact = { λ _ _ _ _. Unit {0} };
-
-    fn one(
-        &self,
-        _alloc: Global,
-        _worker: u32,
-        _local: &mut (),
-        task: u64,
-    ) -> Result<Outcome<u64>, Memory> {
-        let _tasks = self.tasks;
-        Ok(Outcome::Made(task + 1))
-    }
 }
 
 impl LoneWork for OneMore {
@@ -192,7 +170,7 @@ fn made<G: Gate + Sync, R: Threads + Wait + Sync>(
         locals,
         tasks,
         gate,
-        &OneMore { tasks },
+        &Alone(&OneMore { tasks }),
         docket,
     )
 }

@@ -56,7 +56,8 @@ pub trait Work {
         requires task { task < tasks self.now }
         requires others { IsAmongOthers (tasks self.now) (second_fact self.now) task local.old }
         ensures first { IfOk result (λ outcome. first_fact self.now task outcome) }
-        ensures second { IfOk result (GoesOn (tasks self.now) (second_fact self.now) task local.old local.new) };
+        ensures second { IfOk result (GoesOn (tasks self.now)
+            (second_fact self.now) task local.old local.new) };
 }
 
 /// What one worker does with the tasks. Where its type holds no handle, its call can't wait.
@@ -87,5 +88,6 @@ pub trait LoneWork {
         requires task { task < tasks self.now }
         requires others { IsAmongOthers (tasks self.now) (second_fact self.now) task local.old }
         ensures first { IfOk result (λ outcome. first_fact self.now task outcome) }
-        ensures second { IfOk result (GoesOn (tasks self.now) (second_fact self.now) task local.old local.new) };
+        ensures second { IfOk result (GoesOn (tasks self.now)
+            (second_fact self.now) task local.old local.new) };
 }

@@ -31,8 +31,11 @@ fn do_task<G: Gate, W: Work>(
 ) -> Result<bool, Memory>
     requires task { task < W.tasks work.now }
     requires others { IsAmongOthers (W.tasks work.now) (W.second_fact work.now) task local.old }
-    ensures second { IfOk result (λ stop. (list : List ℕ) → AreOthers (W.tasks work.now) task list → W.second_fact work.now list false local.old → W.second_fact work.now (list ++ task ∷ []) stop local.new) }
-    ensures yields { IfOk result (λ stop. YieldsMore (W.first_fact work.now) task stop yields.old.items yields.new.items) }
+    ensures second { IfOk result (λ stop. (list : List ℕ) → AreOthers (W.tasks work.now) task list
+        → W.second_fact work.now list false local.old → W.second_fact work.now
+        (list ++ task ∷ []) stop local.new) }
+    ensures yields { IfOk result (λ stop. YieldsMore (W.first_fact work.now) task stop
+        yields.old.items yields.new.items) }
 {
     gate.pass(worker, task, of);
     match work.one(alloc, worker, local, task)? {
@@ -56,9 +59,11 @@ pub fn work_through<D: Desk, G: Gate, W: Work>(
     mut seat: D::Seat,
     mut local: W::Local,
 ) -> Result<Ran<D::Seat, W::Local, W::Out>, Memory>
-    requires ready { IsReady (D.is_seat desk.now) D.taken D.has_seen_none (W.second_fact work.now) seat local }
+    requires ready { IsReady (D.is_seat desk.now) D.taken D.has_seen_none
+        (W.second_fact work.now) seat local }
     requires tasks { (of ≡ D.tasks desk.now) × (of ≡ W.tasks work.now) }
-    ensures { IfOk result (IsRun (D.is_seat desk.now) D.taken D.has_seen_none (W.first_fact work.now) (W.second_fact work.now)) }
+    ensures { IfOk result (IsRun (D.is_seat desk.now) D.taken D.has_seen_none
+        (W.first_fact work.now) (W.second_fact work.now)) }
 {
     let mut yields = Vec::new(alloc);
     while let Some(task) = desk.take(&mut seat) {

@@ -36,10 +36,12 @@ pub fn workers_of<D: Desk, W: Work>(
     locals: Vec<W::Local>,
 ) -> Result<Vec<Worker<D::Seat, W::Local, W::Out>>, Memory>
     requires count { length seats.items ≡ length locals.items }
-    requires seats { All (λ seat. D.is_seat desk.now seat × (D.taken seat ≡ []) × (D.has_seen_none seat ≡ false)) seats.items }
+    requires seats { All (λ seat. D.is_seat desk.now seat × (D.taken seat ≡ []) ×
+        (D.has_seen_none seat ≡ false)) seats.items }
     requires locals { All (W.second_fact work.now [] false) locals.items }
     ensures count { IfOk result (λ workers. length workers.items ≡ length seats.items) }
-    ensures each { IfOk result (λ workers. All (CanRun (D.is_seat desk.now) D.taken D.has_seen_none (W.first_fact work.now) (W.second_fact work.now)) workers.items) }
+    ensures each { IfOk result (λ workers. All (CanRun (D.is_seat desk.now) D.taken D.has_seen_none
+        (W.first_fact work.now) (W.second_fact work.now)) workers.items) }
 {
     let _ = desk;
     let _ = work;
@@ -64,9 +66,11 @@ fn run_one<D: Desk, G: Gate, W: Work>(
     number: u32,
     worker: &mut Worker<D::Seat, W::Local, W::Out>,
 )
-    requires ready { CanRun (D.is_seat desk.now) D.taken D.has_seen_none (W.first_fact work.now) (W.second_fact work.now) worker.old }
+    requires ready { CanRun (D.is_seat desk.now) D.taken D.has_seen_none (W.first_fact work.now)
+        (W.second_fact work.now) worker.old }
     requires tasks { (of ≡ D.tasks desk.now) × (of ≡ W.tasks work.now) }
-    ensures { HasRun (D.is_seat desk.now) D.taken D.has_seen_none (W.first_fact work.now) (W.second_fact work.now) worker.new }
+    ensures { HasRun (D.is_seat desk.now) D.taken D.has_seen_none (W.first_fact work.now)
+        (W.second_fact work.now) worker.new }
 {
     let Worker::Ready(Waiting { seat, local }) = mem::replace(worker, Worker::Failed) else {
         unreachable!()
@@ -87,10 +91,12 @@ pub fn run_all<D: Desk, G: Gate + Sync, W: Work + Sync, R: Threads + Sync>(
     work: &W,
     workers: &mut Vec<Worker<D::Seat, W::Local, W::Out>>,
 )
-    requires ready { All (CanRun (D.is_seat desk.now) D.taken D.has_seen_none (W.first_fact work.now) (W.second_fact work.now)) workers.old.items }
+    requires ready { All (CanRun (D.is_seat desk.now) D.taken D.has_seen_none
+        (W.first_fact work.now) (W.second_fact work.now)) workers.old.items }
     requires tasks { (of ≡ D.tasks desk.now) × (of ≡ W.tasks work.now) }
     ensures count { length workers.new.items ≡ length workers.old.items }
-    ensures each { All (HasRun (D.is_seat desk.now) D.taken D.has_seen_none (W.first_fact work.now) (W.second_fact work.now)) workers.new.items }
+    ensures each { All (HasRun (D.is_seat desk.now) D.taken D.has_seen_none (W.first_fact work.now)
+        (W.second_fact work.now)) workers.new.items }
 {
     let count = workers.len().max(1);
     thread::for_each_mut(
@@ -98,8 +104,11 @@ pub fn run_all<D: Desk, G: Gate + Sync, W: Work + Sync, R: Threads + Sync>(
         workers.as_mut_slice(),
         count,
         &|number: usize, worker: &mut Worker<D::Seat, W::Local, W::Out>|
-            requires { (of ≡ D.tasks desk.now) × (of ≡ W.tasks work.now) × CanRun (D.is_seat desk.now) D.taken D.has_seen_none (W.first_fact work.now) (W.second_fact work.now) worker.old }
-            ensures { HasRun (D.is_seat desk.entry.now) D.taken D.has_seen_none (W.first_fact work.entry.now) (W.second_fact work.entry.now) worker.new }
+            requires { (of ≡ D.tasks desk.now) × (of ≡ W.tasks work.now) × CanRun
+                (D.is_seat desk.now) D.taken D.has_seen_none (W.first_fact work.now)
+                (W.second_fact work.now) worker.old }
+            ensures { HasRun (D.is_seat desk.entry.now) D.taken D.has_seen_none
+                (W.first_fact work.entry.now) (W.second_fact work.entry.now) worker.new }
         {
             let number = u32::try_from(number).unwrap_or(u32::MAX);
             run_one(alloc, desk, of, gate, work, number, worker);

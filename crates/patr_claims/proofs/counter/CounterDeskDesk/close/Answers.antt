@@ -22,10 +22,9 @@ one_more lists new seats rest all seat grown steps so_far = (
   simp (length-map, length-append) at (ap length grown),
 )
 
-whole : (lists : List (Vec ℕ Global)) (rest all : List CounterSeat) → numbers lists ++ taken_of rest ≡ taken_of all → length lists ≡ length all → numbers lists ≡ taken_of all
-whole lists rest all is long =
-    let sizes : length lists + length rest ≡ length all = simp (length-append, length-map) at (ap length is) in
-    sym (append-nil (numbers lists)) ∙ ap (λ r. numbers lists ++ taken_of r) (sym (nothing_left rest (omega arith))) ∙ is
+-- at the end the lists are those of all seats
+whole : (lists : List (Vec ℕ Global)) (rest all : List CounterSeat) → numbers lists ++ taken_of rest ≡ taken_of all → length rest ≡ 0 → numbers lists ≡ taken_of all
+whole lists rest all is ended = sym (append-nil (numbers lists)) ∙ ap (λ r. numbers lists ++ taken_of r) (sym (nothing_left rest ended)) ∙ is
 
 pub loop-seat-init : goal.loop-seat-init
 loop-seat-init c =
@@ -60,28 +59,14 @@ loop-seat-preserved c =
     }
 
 pub returns-clause-once : goal.returns-clause-once
-returns-clause-once c =
-    let i = c.loop-seat.invariant in
-    let ended = c.in-None.ensures.steps.0 in
-    let count = i.count in
-    let same = whole c.loop-seat.gathered.lists.items _ c.args.seats.items i.lists (omega arith) in
-    subst NoneTwice same c.close.ensures.once
+returns-clause-once c = subst NoneTwice (whole _ _ _ c.loop-seat.invariant.lists (omega (arith, c.in-None.ensures.steps.0))) c.close.ensures.once
 
 pub returns-clause-every : goal.returns-clause-every
-returns-clause-every c = λ each.
-    let i = c.loop-seat.invariant in
-    let ended = c.in-None.ensures.steps.0 in
-    let count = i.count in
-    let same = whole c.loop-seat.gathered.lists.items _ c.args.seats.items i.lists (omega arith) in
+returns-clause-every c = λ each x below.
     let tasks_are = ap (λ (size : DeskSize). size.tasks) c.args.self.key in
-    let all = c.close.ensures.every (i.notes each) in
-    λ x below. ap (times_in x) (sym same) ∙ all x (omega arith)
+    ap (times_in x) (sym (whole _ _ _ c.loop-seat.invariant.lists (omega (arith, c.in-None.ensures.steps.0)))) ∙ c.close.ensures.every (c.loop-seat.invariant.notes each) x (omega arith)
 
 pub returns-clause-no_other : goal.returns-clause-no_other
-returns-clause-no_other c =
-    let i = c.loop-seat.invariant in
-    let ended = c.in-None.ensures.steps.0 in
-    let count = i.count in
-    let same = whole c.loop-seat.gathered.lists.items _ c.args.seats.items i.lists (omega arith) in
+returns-clause-no_other c = λ x above.
     let tasks_are = ap (λ (size : DeskSize). size.tasks) c.args.self.key in
-    λ x above. ap (times_in x) (sym same) ∙ c.close.ensures.no_other x (omega arith)
+    ap (times_in x) (sym (whole _ _ _ c.loop-seat.invariant.lists (omega (arith, c.in-None.ensures.steps.0)))) ∙ c.close.ensures.no_other x (omega arith)

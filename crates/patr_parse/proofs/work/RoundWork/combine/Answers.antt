@@ -13,28 +13,17 @@ unreachable-requires g c =
     let f = facts (rules_of c.args.self.now.library.now) c.args.self.now.library.now (g.N.Nodes.shown c.args.self.now.nodes.now) c.args.self.now.limit c.args.self.now.chart.now.words c.args.self.now.chart.now.edges (g.met.N.Nodes.lawful c.args.self.now.nodes.now) c.edge.ensures.edges c.requires.ready c.args.pair.0 c.args.pair.1 c.edge.result.now c.edge-2.result.now c.edge.ensures.there c.edge-2.ensures.there (partners_near c.args.self.now.chart.now.edges c.args.pair.0 c.args.pair.1 c.edge.result.now c.edge-2.result.now c.requires.partners c.edge.ensures.there c.edge-2.ensures.there) c.with_daughter-kind.result c.with_daughter-kind.ensures (daughters c.with_daughter-kind.result) refl in
     f.node c.in_default.field-0.0 (ap (value_of (g.N.Nodes.shown c.args.self.now.nodes.now)) c.in_default.is)
 
-pub has_unifier-requires-clause-left : goal.has_unifier-requires-clause-left
-has_unifier-requires-clause-left g c =
-    let f = facts (rules_of c.args.self.now.library.now) c.args.self.now.library.now (g.N.Nodes.shown c.args.self.now.nodes.now) c.args.self.now.limit c.args.self.now.chart.now.words c.args.self.now.chart.now.edges (g.met.N.Nodes.lawful c.args.self.now.nodes.now) c.edge.ensures.edges c.requires.ready c.args.pair.0 c.args.pair.1 c.edge.result.now c.edge-2.result.now c.edge.ensures.there c.edge-2.ensures.there (partners_near c.args.self.now.chart.now.edges c.args.pair.0 c.args.pair.1 c.edge.result.now c.edge-2.result.now c.requires.partners c.edge.ensures.there c.edge-2.ensures.there) c.with_daughter-kind.result c.with_daughter-kind.ensures c.last_slot.result.0 c.last_slot.ensures in
-    subst (ValueIsHeld (g.N.Nodes.shown c.args.self.now.nodes.now)) c.in-Node.is f.left
-
-pub has_unifier-requires-clause-right : goal.has_unifier-requires-clause-right
-has_unifier-requires-clause-right g c =
-    let f = facts (rules_of c.args.self.now.library.now) c.args.self.now.library.now (g.N.Nodes.shown c.args.self.now.nodes.now) c.args.self.now.limit c.args.self.now.chart.now.words c.args.self.now.chart.now.edges (g.met.N.Nodes.lawful c.args.self.now.nodes.now) c.edge.ensures.edges c.requires.ready c.args.pair.0 c.args.pair.1 c.edge.result.now c.edge-2.result.now c.edge.ensures.there c.edge-2.ensures.there (partners_near c.args.self.now.chart.now.edges c.args.pair.0 c.args.pair.1 c.edge.result.now c.edge-2.result.now c.requires.partners c.edge.ensures.there c.edge-2.ensures.there) c.with_daughter-kind.result c.with_daughter-kind.ensures c.last_slot.result.0 c.last_slot.ensures in f.right
-
-pub has_unifier-requires-clause-slot : goal.has_unifier-requires-clause-slot
-has_unifier-requires-clause-slot g c =
-    let v = g.N.Nodes.shown c.args.self.now.nodes.now in
-    let f = facts (rules_of c.args.self.now.library.now) c.args.self.now.library.now (g.N.Nodes.shown c.args.self.now.nodes.now) c.args.self.now.limit c.args.self.now.chart.now.words c.args.self.now.chart.now.edges (g.met.N.Nodes.lawful c.args.self.now.nodes.now) c.edge.ensures.edges c.requires.ready c.args.pair.0 c.args.pair.1 c.edge.result.now c.edge-2.result.now c.edge.ensures.there c.edge-2.ensures.there (partners_near c.args.self.now.chart.now.edges c.args.pair.0 c.args.pair.1 c.edge.result.now c.edge-2.result.now c.requires.partners c.edge.ensures.there c.edge-2.ensures.there) c.with_daughter-kind.result c.with_daughter-kind.ensures c.last_slot.result.0 c.last_slot.ensures in
-    subst (λ r. at v.structure (value_of v r) (c.last_slot.result.0 ∷ []) ≢ None) c.in-Node.is f.there
-
-pub has_unifier-requires-clause-within : goal.has_unifier-requires-clause-within
-has_unifier-requires-clause-within g c =
+pub has_unifier-requires : goal.has_unifier-requires
+has_unifier-requires g c =
     let v = g.N.Nodes.shown c.args.self.now.nodes.now in
     let f = facts (rules_of c.args.self.now.library.now) c.args.self.now.library.now (g.N.Nodes.shown c.args.self.now.nodes.now) c.args.self.now.limit c.args.self.now.chart.now.words c.args.self.now.chart.now.edges (g.met.N.Nodes.lawful c.args.self.now.nodes.now) c.edge.ensures.edges c.requires.ready c.args.pair.0 c.args.pair.1 c.edge.result.now c.edge-2.result.now c.edge.ensures.there c.edge-2.ensures.there (partners_near c.args.self.now.chart.now.edges c.args.pair.0 c.args.pair.1 c.edge.result.now c.edge-2.result.now c.requires.partners c.edge.ensures.there c.edge-2.ensures.there) c.with_daughter-kind.result c.with_daughter-kind.ensures c.last_slot.result.0 c.last_slot.ensures in
     let one = c.in_ok-reach_of.ensures.0 in
-    let two = c.in_ok-reach_of.ensures.1 in
-    λ n a m b x y. let h = f.within n a m b (subst (λ r. Counts v.structure (value_of v r) n a) (sym c.in-Node.is) x) y in (omega (arith, h.0, one), omega (arith, h.1, two))
+    let two = c.in_ok-reach_of.ensures.1 in record {
+      left = subst (ValueIsHeld v) c.in-Node.is f.left;
+      right = f.right;
+      slot = subst (λ r. at v.structure (value_of v r) (c.last_slot.result.0 ∷ []) ≢ None) c.in-Node.is f.there;
+      within = λ n a m b x y. let h = f.within n a m b (subst (λ r. Counts v.structure (value_of v r) n a) (sym c.in-Node.is) x) y in (omega (arith, h.0, one), omega (arith, h.1, two));
+    }
 
 pub returns-then-not-branch-clause-combined : goal.returns-then-not-branch-clause-combined
 returns-then-not-branch-clause-combined g c =

@@ -1,7 +1,7 @@
 use Rattle.std.proofs.Common.{sym, subst}
 use Rattle.patr_parse.proofs.Names.{sentence_of, Shown, value_of, made_of, kind_passive, HasMother, IsRootBy}
 use Rattle.patr_parse.proofs.Placed.{value_placed}
-use Rattle.patr_parse.proofs.draft.place.Goals as goal
+use Rattle.patr_parse.proofs.draft.store_unifier.Goals as goal
 
 pub root_for-requires-clause-mother : goal.root_for-requires-clause-mother
 root_for-requires-clause-mother c = λ passive.
