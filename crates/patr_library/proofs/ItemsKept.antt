@@ -1,42 +1,14 @@
 -- The least value of a block where the block stands in an arena, and what is reached from it.
-use Rattle.std.proofs.Common.{◌≡◌, inl, inr, ℕ, zero, suc, ◌+◌, ◌<◌, ◌≤◌, Bool, true, false, cond, nat_eq, List, [], ◌∷◌, length, length-append, get_or, Some, refl, sym, ap, ◌∙◌, arith, subst}
-use Rattle.patr_library.proofs.Names.{sum_by, length-map, get_or-append-add, total, Value, Atom, Node, Structure, along, arc, at, Same, Equation, variant, RuleAt, IsLeastOf, AreWithin, some_inj, and_then_some, own, Ref, Feature, Shown, IsShown, IsHeld, number_of, ref_of, with_block, held_below, still_held, same_number, block_extends, new_number, own_arcs, own_nodes, own_value, IsOwn, AllOwn, IsOwnBlock, IsPlacedAt, shift, shifted, IsLeastAt, Bounds, HasBlock}
-use Rattle.std.proofs.lemmas.List.Sums.{sum_by-cons}
+use Rattle.std.proofs.Common.{◌≡◌, ℕ, ◌+◌, ◌<◌, ◌≤◌, Bool, true, false, cond, nat_eq, List, [], ◌∷◌, length, length-append, get_or, Some, refl, sym, ap, ◌∙◌, arith, subst}
+use Rattle.patr_library.proofs.Names.{sum_by, length-map, get_or-append-add, total, Value, Atom, Node, Structure, along, arc, at, Same, Equation, variant, RuleAt, IsLeastOf, AreWithin, some_inj, and_then_some, own, Ref, Feature, Shown, IsShown, IsHeld, number_of, ref_of, with_block, held_below, still_held, same_number, block_extends, new_number, own_arcs, own_nodes, own_value, IsOwn, AllOwn, IsOwnBlock, IsPlacedAt, shift, shifted, IsLeastAt, Bounds, HasBlock, Counts}
+use Rattle.patr_library.proofs.Room.{range, range_has, range_long, range_weight}
 use Rattle.patr_lists.proofs.Totals.{total_room}
 use Rattle.patr_lists.proofs.Members.{no_longer}
 use Rattle.patr_lists.specs.Members.{IsIn}
-use Rattle.patr_unify.specs.Deciding.{Counts}
 use Rattle.patr_arena.specs.declared.value.Ref.TheVariants as ref
 use Rattle.patr_library.proofs.Corresponding.{own_get}
 use Rattle.patr_library.proofs.Placed.{ref_shifted, held_anywhere, placed_same, placed_new, placed_longer}
 use Rattle.patr_library.proofs.Steps.{same_least}
-
--- ---- the numbers of a block's nodes
-
--- so many numbers, from p on
-range : ℕ → ℕ → List ℕ
-range p zero = []
-range p (suc m) = p ∷ range (suc p) m
-
-range_has : (p m i : ℕ) → i < m → IsIn (range p m) (p + i)
-unfolding range
-range_has p zero i h = absurd (omega (arith, h))
-range_has p (suc m) zero h = inl (omega arith)
-range_has p (suc m) (suc i) h = inr (subst (IsIn (range (suc p) m)) (let e : suc p + i ≡ p + suc i = omega arith in e) (range_has (suc p) m i (omega (arith, h))))
-
-range_long : (p m : ℕ) → length (range p m) ≡ m
-unfolding range
-range_long p zero = refl
-range_long p (suc m) = ap (λ n. suc n) (range_long (suc p) m)
-
-range_weight : (f : ℕ → ℕ) (p : ℕ) (nodes : List (List Feature)) → ((k : ℕ) → k < length nodes → f (p + k) ≡ length (get_or nodes k [])) → total f (range p (length nodes)) ≡ sum_by length nodes
-unfolding range
-range_weight f p [] h = refl
-range_weight f p (fs ∷ nodes) h =
-    let here : f p ≡ length fs = ap f (let e : p ≡ p + 0 = omega arith in e) ∙ h 0 (omega arith) in
-    let rest : total f (range (suc p) (length nodes)) ≡ sum_by length nodes = range_weight f (suc p) nodes (λ k l. ap f (let e : suc p + k ≡ p + suc k = omega arith in e) ∙ h (suc k) (omega (arith, l))) in
-    let whole : sum_by length (fs ∷ nodes) ≡ length fs + sum_by length nodes = sum_by-cons length fs nodes in
-    omega (arith, here, rest, whole)
 
 -- ---- what is reached from a block's node
 

@@ -1,6 +1,6 @@
 -- What is kept of each variant of a rule and of an entry, and of all of them.
 use Rattle.std.proofs.Common.{drop, ◌≡◌, ◌⊎◌, inl, inr, ℕ, ◌+◌, ◌-◌, ◌<◌, List, [], ◌∷◌, ◌++◌, length, length-append, map, take, get_or, Some, slice_get, refl, sym, ap, ◌∙◌, arith, subst, suc, Option, None, Vec, Global}
-use Rattle.patr_library.proofs.Names.{drop_more, take-append-drop, sum_by, length-map, map-append, take_more, append-nil, append_assoc, slice_get-map, slice_get_within, equations_at, variant_at, Feature, Addr, extends_on, Shown, IsShown, arcs_from, Extends, with_block, RuleItem, IsLeastAt, HasBlock, AreKept, IsDealt, AreDealt, IsRuleDealt, HasRuleItem, Numbered, numbered, entries_fault, entry_fault, entry_seen, get_or_from_slice_get, AllByRecursion, length-take-le, AreWithin, SizeFault, first_fault, rule_fault, rules_fault, are_built, Id, Fault, rule_seen, ExpandCause, number, variants_at, AreNumbered, IsRefusedBy, keys, numbered_from, all_numbered, variants_of, StaysWithin, Node, arc, EntryVariant, variants, entry_variant_of, feature_variants, features_seen, Entry, lists_at, Ref, ValueIsHeld, ref_of, value_of, same_number, same_number_held, still_held, EntryItem, IsOwn, own_nodes, own_value, IsEntryDealt, HasEntryItem, NumberedEntry, StaysAlone, entry_variants_of, variant_of}
+use Rattle.patr_library.proofs.Names.{drop_more, take-append-drop, sum_by, length-map, map-append, take_more, append-nil, append_assoc, slice_get-map, slice_get_within, equations_at, variant_at, Feature, Addr, extends_on, Shown, IsShown, arcs_from, Extends, with_block, RuleItem, IsLeastAt, HasBlock, AreKept, IsDealt, AreDealt, IsRuleDealt, HasRuleItem, Numbered, numbered, entries_fault, entry_fault, entry_seen, get_or_from_slice_get, AllByRecursion, length-take-le, AreWithin, SizeFault, first_fault, rule_fault, rules_fault, are_built, Id, Fault, rule_seen, ExpandCause, number, variants_at, AreNumbered, IsRefusedBy, keys, numbered_from, all_numbered, variants_of, StaysWithin, Node, arc, EntryVariant, variants, entry_variant_of, feature_variants, features_seen, Entry, lists_at, Ref, ValueIsHeld, ref_of, value_of, same_number, same_number_held, still_held, EntryItem, IsOwn, own_nodes, own_value, IsEntryDealt, HasEntryItem, NumberedEntry, StaysAlone, all_variants_of, entry_variants_of, variant_of}
 use Rattle.std.specs.Option.{option_map}
 use Rattle.patr_grammar.specs.declared.grammar.SymbolText.{SymbolText}
 use Rattle.patr_expand.specs.declared.variant.RuleVariant.{RuleVariant}
@@ -293,23 +293,27 @@ numbered_append n k [] x = ap (λ j. (n, j, x) ∷ []) (let e : k ≡ k + 0 = om
 numbered_append n k (y ∷ xs) x =
     ap (λ l. (n, k, y) ∷ l) (numbered_append n (suc k) xs x ∙ ap (λ j. numbered_from n (suc k) xs ++ (n, j, x) ∷ []) (let e : suc k + length xs ≡ k + suc (length xs) = omega arith in e))
 
-pub variant_more : {X Y : Type 0} (f : X → Y) (n k : ℕ) (xs : List X) (x : X) → k ≡ length xs → numbered_from n 0 (map f (xs ++ x ∷ [])) ≡ numbered_from n 0 (map f xs) ++ (n, k, f x) ∷ []
-variant_more f n k xs x h =
-    ap (numbered_from n 0) (map-append f xs (x ∷ []))
-    ∙ (numbered_append n 0 (map f xs) (f x) ∙ ap (λ j. numbered_from n 0 (map f xs) ++ (n, j, f x) ∷ []) (let e : 0 + length (map f xs) ≡ k = omega (arith, length-map xs f, h) in e))
+-- with one variant more
+pub variant_more : {X Y : Type 0} (f : X → Y) (n : ℕ) (xs : List X) (k : ℕ) (x : X) → k < length xs → numbered_from n 0 (map f (take (k + 1) xs)) ≡ numbered_from n 0 (map f (take k xs)) ++ (n, k, f (get_or xs k x)) ∷ []
+variant_more f n xs k x h =
+    let y = get_or xs k x in
+    let long : length (map f (take k xs)) ≡ k = length-map (take k xs) f ∙ length-take-le k xs (omega (arith, h)) in
+    ap (λ l. numbered_from n 0 (map f l)) (take_more xs k x h)
+    ∙ (ap (numbered_from n 0) (map-append f (take k xs) (y ∷ []))
+    ∙ (numbered_append n 0 (map f (take k xs)) (f y) ∙ ap (λ j. numbered_from n 0 (map f (take k xs)) ++ (n, j, f y) ∷ []) (let e : 0 + length (map f (take k xs)) ≡ k = omega (arith, long) in e)))
 
-pub variants_are : (e : Entry) (fs : List Element) (vs : List (Vec Equation Global)) → fs ≡ e.features.items → lists_at vs ≡ variants (feature_variants number) (features_seen fs) → map (variant_of e) vs ≡ entry_variants_of e
+pub variants_are : (e : Entry) (fs : List Element) (vs : List (Vec Equation Global)) → fs ≡ e.features.items → lists_at vs ≡ variants (feature_variants number) (features_seen fs) → all_variants_of e vs ≡ entry_variants_of e
 variants_are e fs vs body is = go vs ∙ ap (map (entry_variant_of number keys (entry_seen e))) (is ∙ ap (λ l. variants (feature_variants number) (features_seen l)) body)
   where
-    go : (us : List (Vec Equation Global)) → map (variant_of e) us ≡ map (entry_variant_of number keys (entry_seen e)) (lists_at us)
+    go : (us : List (Vec Equation Global)) → all_variants_of e us ≡ map (entry_variant_of number keys (entry_seen e)) (lists_at us)
     go [] = refl
-    go (u ∷ us) = ap (λ l. variant_of e u ∷ l) (go us)
+    go (u ∷ us) = ap (λ l. variant_of e u.items ∷ l) (go us)
 
-pub all_alone : (e : Entry) (vs : List (Vec Equation Global)) → map (variant_of e) vs ≡ entry_variants_of e → AllByRecursion (StaysAlone e) vs
+pub all_alone : (e : Entry) (vs : List (Vec Equation Global)) → all_variants_of e vs ≡ entry_variants_of e → AllByRecursion (StaysAlone e) vs
 all_alone e vs is =
     let g : production.Grammar Id = record { rules = []; templates = []; lexical_rules = []; start = record { 0 = 0 }; restrictor = []; order = [] } in
     go vs (λ k x h. (are_built number keys g (entry_seen e ∷ [])).within.entries 0 k x (ap (λ l. slice_get l k) (sym is) ∙ h))
   where
-    go : (us : List (Vec Equation Global)) → ((k : ℕ) (x : EntryVariant) → slice_get (map (variant_of e) us) k ≡ Some x → AreWithin 1 x.equations) → AllByRecursion (StaysAlone e) us
+    go : (us : List (Vec Equation Global)) → ((k : ℕ) (x : EntryVariant) → slice_get (all_variants_of e us) k ≡ Some x → AreWithin 1 x.equations) → AllByRecursion (StaysAlone e) us
     go [] f = tt
-    go (u ∷ us) f = (f 0 (variant_of e u) refl, go us (λ k x h. f (suc k) x h))
+    go (u ∷ us) f = (f 0 (variant_of e u.items) refl, go us (λ k x h. f (suc k) x h))

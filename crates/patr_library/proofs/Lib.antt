@@ -1,4 +1,5 @@
 mod Corresponding
+mod Facts
 mod Imaging
 mod ItemsKept
 mod Keeping
@@ -9,4 +10,7 @@ mod Names
 mod Parts
 mod Placed
 mod Placing
+pub mod Reached
+pub mod Room
 mod Steps
+mod Workspaces

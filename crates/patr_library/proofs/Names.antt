@@ -16,10 +16,11 @@ pub use Rattle.patr_lexicon.specs.Seen.{entry_seen}
 pub use Rattle.patr_lexicon.specs.declared.lexicon.Entry.{Entry}
 pub use Rattle.patr_library.specs.Built.{AreDealt, AreKept, AreRulesDealt, HasBlock, HasNoRule, HasRuleItem, IsDealt, IsRuleDealt, Numbered, StaysWithin, all_numbered, numbered, numbered_from, variants_of}
 pub use Rattle.patr_library.specs.Copies.{AreCopies, AreImages, AreReached, Corresponds, HasCopy, HaveCopies, IsImage, IsNextImage, image_at, with_mark, with_marks}
-pub use Rattle.patr_library.specs.Entries.{AreEntriesDealt, HasEntryItem, HasNoEntry, IsEntryDealt, NumberedEntry, StaysAlone, entry_variants_of, variant_of}
+pub use Rattle.patr_library.specs.Entries.{AreEntriesDealt, HasEntryItem, HasNoEntry, IsEntryDealt, NumberedEntry, StaysAlone, all_variants_of, entry_variants_of, variant_of}
 pub use Rattle.patr_library.specs.Lists.{has_key}
 pub use Rattle.patr_library.specs.Own.{AllOwn, ArePartedAt, ArePlaces, ArePlacesUpTo, IsLedTo, IsOwn, IsOwnBlock, IsPlaceOf, IsPlacedAt, IsRooted, IsStatement, led_all, offsets_of, own_arcs, own_nodes, own_value, pointed, shift, shifted}
-pub use Rattle.patr_library.specs.Solved.{HasNone, HasSlot, IsLeastAt, IsNew, IsUnified, TakeNone, slot_features}
+pub use Rattle.patr_library.specs.Solved.{AreUnified, HasNone, HasSlot, IsLeastAt, IsLeastIn, IsNew, IsSlots, IsUnified, slot_features}
+pub use Rattle.patr_library.specs.Starts.{IsSolved, IsSolvedIn, fact_features, facts_at, slots_of, stated_of}
 pub use Rattle.patr_library.specs.Stored.{AreOfEntries, Bounds, HasItems, IsEntryItem, IsRuleItem, Rises, built_rules, entries_of, grammar_of, is_number, is_of_mother, is_of_word, keys, rules_of, word_at}
 pub use Rattle.patr_library.specs.declared.item.EntryItem.{EntryItem}
 pub use Rattle.patr_library.specs.declared.item.RuleItem.{RuleItem}
@@ -41,7 +42,8 @@ pub use Rattle.patr_model.specs.Subsumption.{IsMap, IsUnifier, MapsInto, Same, T
 pub use Rattle.patr_model.specs.Variants.{AreWithin, IsLeastOf, IsWithin, RuleAt, blank_slots, from_root, nodes_from, variant}
 pub use Rattle.patr_text.specs.declared.fault.Fault.{Fault}
 pub use Rattle.patr_text.specs.declared.symbols.Id.{Id}
-pub use Rattle.patr_unify.specs.Copying.{IsMade}
+pub use Rattle.patr_unify.specs.Copying.{Fits, IsMade, made_of}
+pub use Rattle.patr_unify.specs.Deciding.{Counts}
 pub use Rattle.std.proofs.Math.Nat.{eq-or-lt_of_le}
 pub use Rattle.std.proofs.lemmas.List.{append-nil, append_assoc, drop_all, drop_more, get_or-append-add, get_or_append_left, get_or_past, get_or-set_other, get_or-set_same, get_or_push, get_or_read, length-map, length-replicate, length-set, length-take-le, map-append, nil_from_length, take-append-drop, take_all, take_more}
 pub use Rattle.std.proofs.lemmas.Option.{cond_some, get_or_from_slice_get, slice_get-get_or, slice_get-map, slice_get_within}

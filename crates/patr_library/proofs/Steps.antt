@@ -1,10 +1,10 @@
 -- The least value of one more equation.
-use Rattle.std.proofs.Common.{◌≡◌, inl, inr, ℕ, zero, suc, ◌+◌, ◌<◌, ◌≤◌, cond, List, [], ◌∷◌, ◌++◌, length, length-append, map, get_or, replicate, take, drop, None, Some, refl, sym, ap, ◌∙◌, arith, subst, eq-eqb, ne_eqb}
-use Rattle.patr_library.proofs.Names.{eq-or-lt_of_le, get_there, map-append, length-replicate, take_more, take-append-drop, IsStrictlyIncreasing, Value, Node, Arcs, Structure, IsValue, IsStructure, along, arc, MapsInto, Same, TakesBoth, IsUnifier, Equation, slots_from, variant, RuleAt, IsLeastOf, AreWithin, IsWithin, blank_slots, nodes_from, carries_arc, maps_reflexive, maps_transitive, rule_carried, variant_steps, Ref, Feature, attributes, rising_tail, own_value, own_arcs, own_nodes, pointed, AllOwn, IsOwn, IsOwnBlock, IsRooted, IsStatement, slot_features, HasSlot, IsLeastAt, IsNew, HasNone, IsUnified, TakeNone}
+use Rattle.std.proofs.Common.{◌≡◌, inl, inr, ℕ, zero, suc, ◌+◌, ◌<◌, ◌≤◌, cond, List, [], ◌∷◌, ◌++◌, length, length-append, map, get_or, replicate, take, drop, Option, None, Some, refl, sym, ap, ◌∙◌, arith, subst, eq-eqb, ne_eqb}
+use Rattle.patr_library.proofs.Names.{eq-or-lt_of_le, get_there, append_assoc, map-append, length-replicate, take_more, take-append-drop, IsStrictlyIncreasing, Value, Node, Arcs, Structure, IsValue, IsStructure, along, arc, MapsInto, Same, TakesBoth, IsUnifier, Equation, slots_from, variant, RuleAt, IsLeastOf, AreWithin, IsWithin, blank_slots, nodes_from, carries_arc, maps_reflexive, maps_transitive, rule_carried, variant_steps, Ref, Feature, attributes, rising_tail, own_value, own_arcs, own_nodes, pointed, AllOwn, IsOwn, IsOwnBlock, IsRooted, IsStatement, slot_features, HasSlot, IsLeastAt, IsNew, HasNone, AreUnified, IsSolvedIn, Pointed, Shown, value_of}
+use Rattle.patr_arena.specs.declared.value.Value as its
 use Rattle.patr_model.specs.Variants.{equation_at}
 use Rattle.patr_arena.specs.declared.value.Ref.TheVariants as ref
 use Rattle.patr_library.proofs.Corresponding.{own_get}
-use Rattle.patr_library.proofs.Placed.{own_structure, own_is_value}
 
 -- ---- unspecified slots
 
@@ -101,32 +101,38 @@ same_least cs es w U u C c s h same least = record {
   least = λ G v g held p. maps_transitive C c U u G v same.1 (least.least G v g held p);
 }
 
-self : (nodes : List (List Feature)) (r : Ref) → IsRooted nodes r → Same (own_nodes nodes) (own_value r) (own_nodes nodes) (own_value r)
-self nodes r rooted =
-    let m = maps_reflexive (own_nodes nodes) (own_value r) (own_structure nodes rooted.own) (own_is_value nodes r rooted.root) in (m, m)
-
-swap : (S : Structure) (v : Value) (G : Structure) (w : Value) → Same S v G w → Same G w S v
+pub swap : (S : Structure) (v : Value) (G : Structure) (w : Value) → Same S v G w → Same G w S v
 swap S v G w s = (s.1, s.0)
 
-pub least_more : (slots : ℕ) (es : List Equation) (e : Equation) (left : List (List Feature)) (l : ℕ) (right : List (List Feature)) (r : Ref) (nodes : List (List Feature)) (root : ℕ)
-    → IsLeastAt slots es left l → AreWithin slots (es ++ e ∷ []) → IsStatement e (pointed right r) → IsUnified left l right r nodes root → IsLeastAt slots (es ++ e ∷ []) nodes root
-least_more slots es e left l right r nodes root so_far within stated made = record {
-  rooted = made.rooted;
-  least = λ cs count.
-      let w : AreWithin (length cs) (es ++ e ∷ []) = subst (λ n. AreWithin n (es ++ e ∷ [])) (sym count) within in
-      let E = stated.stated in
-      let un = same_unifier (own_nodes left) (Node l) (own_nodes right) (own_value r) (own_nodes left) (Node l) E.nodes E.root (self left (ref.New l) so_far.rooted) (swap E.nodes E.root (own_nodes right) (own_value r) stated.same) made.whole made.at made.unifier in
-      let all = variant_steps.adds cs es e E (own_nodes left) (Node l) made.whole made.at (within_left (length cs) es (e ∷ []) w) (within_last (length cs) es e w) stated.is (so_far.least cs count) un in
-      same_least cs (es ++ e ∷ []) w made.whole made.at (own_nodes nodes) (Node root) (own_structure nodes made.rooted.own) (own_is_value nodes (ref.New root) made.rooted.root) made.same all;
-}
+-- where the value so far and the equation have a unifier, it is the next value, and else there is none
+pub least_more : (slots : ℕ) (es : List Equation) (e : Equation) (v w : Shown) (x : its.Value) (right : List (List Feature)) (r : Ref) (o : Option its.Value)
+    → IsSolvedIn v slots es (Some x) → AreWithin slots (es ++ e ∷ []) → IsStatement e (pointed right r) → AreUnified v w x right r o → IsSolvedIn w slots (es ++ e ∷ []) o
+least_more slots es e v w x right r o so_far within stated made = go o made
+  where
+    E : Pointed
+    E = stated.stated
 
-pub none_more : (slots : ℕ) (es : List Equation) (e : Equation) (left : List (List Feature)) (l : ℕ) (right : List (List Feature)) (r : Ref)
-    → IsLeastAt slots es left l → AreWithin slots (es ++ e ∷ []) → IsStatement e (pointed right r) → TakeNone left l right r → HasNone slots (es ++ e ∷ [])
-none_more slots es e left l right r so_far within stated none = λ cs count.
-    let w : AreWithin (length cs) (es ++ e ∷ []) = subst (λ n. AreWithin n (es ++ e ∷ [])) (sym count) within in
-    let E = stated.stated in
-    variant_steps.refuses cs es e E (own_nodes left) (Node l) (within_last (length cs) es e w) stated.is (so_far.least cs count)
-    (same_none (own_nodes left) (Node l) (own_nodes right) (own_value r) (own_nodes left) (Node l) E.nodes E.root (self left (ref.New l) so_far.rooted) (swap E.nodes E.root (own_nodes right) (own_value r) stated.same) none)
+    inside : (cs : List ℕ) → length cs ≡ slots → AreWithin (length cs) (es ++ e ∷ [])
+    inside cs count = subst (λ n. AreWithin n (es ++ e ∷ [])) (sym count) within
+
+    left : (cs : List ℕ) → length cs ≡ slots → Same v.structure (value_of v x) v.structure (value_of v x)
+    left cs count =
+        let l = so_far.1 cs count in
+        let m = maps_reflexive v.structure (value_of v x) l.structure l.held in (m, m)
+
+    right_same : Same (own_nodes right) (own_value r) E.nodes E.root
+    right_same = swap E.nodes E.root (own_nodes right) (own_value r) stated.same
+
+    go : (o : Option its.Value) → AreUnified v w x right r o → IsSolvedIn w slots (es ++ e ∷ []) o
+    go None none = λ cs count.
+        variant_steps.refuses cs es e E v.structure (value_of v x) (within_last (length cs) es e (inside cs count)) stated.is (so_far.1 cs count)
+        (same_none v.structure (value_of v x) (own_nodes right) (own_value r) v.structure (value_of v x) E.nodes E.root (left cs count) right_same none)
+    go (Some y) un = (
+      un.slots,
+      λ cs count.
+          variant_steps.adds cs es e E v.structure (value_of v x) w.structure (value_of w y) (within_left (length cs) es (e ∷ []) (inside cs count)) (within_last (length cs) es e (inside cs count)) stated.is (so_far.1 cs count)
+          (same_unifier v.structure (value_of v x) (own_nodes right) (own_value r) v.structure (value_of v x) E.nodes E.root (left cs count) right_same w.structure (value_of w y) un.unifier),
+    )
 
 pub none_at_once : (slots : ℕ) (es : List Equation) (e : Equation) → equation_at e ≡ None → HasNone slots (es ++ e ∷ [])
 none_at_once slots es e h = λ cs count. variant_steps.refuses_at_once cs es e h
@@ -136,32 +142,32 @@ none_still slots es fs h = λ cs count. variant_steps.keeps_refusing cs es fs (h
 
 -- ---- the equations so far
 
-pub all_of : {X : Type 0} (f : X → Equation) (xs : List X) (i : ℕ) → map f xs ≡ map f (take i xs) ++ map f (drop i xs)
-all_of f xs i = ap (map f) (sym (take-append-drop i xs)) ∙ map-append f (take i xs) (drop i xs)
+pub all_of : {X : Type 0} (f : X → Equation) (s : List Equation) (xs : List X) (i : ℕ) → s ++ map f xs ≡ (s ++ map f (take i xs)) ++ map f (drop i xs)
+all_of f s xs i = ap (λ l. s ++ map f l) (sym (take-append-drop i xs)) ∙ (ap (λ l. s ++ l) (map-append f (take i xs) (drop i xs)) ∙ sym (append_assoc s (map f (take i xs)) (map f (drop i xs))))
 
 -- with one more
-pub taken_more : {X : Type 0} (f : X → Equation) (n : ℕ) (xs : List X) (i : ℕ) (x : X) → i < length xs → x ≡ get_or xs i x → AreWithin n (map f xs) → (map f (take (i + 1) xs) ≡ map f (take i xs) ++ f x ∷ []) × AreWithin n (map f (take i xs) ++ f x ∷ [])
-taken_more f n xs i x h is w =
-    let more = ap (map f) (take_more xs i x h) ∙ (map-append f (take i xs) (get_or xs i x ∷ []) ∙ ap (λ y. map f (take i xs) ++ f y ∷ []) (sym is)) in
-    (more, subst (AreWithin n) more (within_left n (map f (take (i + 1) xs)) (map f (drop (i + 1) xs)) (subst (AreWithin n) (all_of f xs (i + 1)) w)))
+pub taken_more : {X : Type 0} (f : X → Equation) (n : ℕ) (s : List Equation) (xs : List X) (i : ℕ) (x : X) → i < length xs → x ≡ get_or xs i x → AreWithin n (s ++ map f xs)
+    → (s ++ map f (take (i + 1) xs) ≡ (s ++ map f (take i xs)) ++ f x ∷ []) × AreWithin n ((s ++ map f (take i xs)) ++ f x ∷ [])
+taken_more f n s xs i x h is w =
+    let taken = ap (map f) (take_more xs i x h) ∙ (map-append f (take i xs) (get_or xs i x ∷ []) ∙ ap (λ y. map f (take i xs) ++ f y ∷ []) (sym is)) in
+    let more = ap (λ l. s ++ l) taken ∙ sym (append_assoc s (map f (take i xs)) (f x ∷ [])) in
+    (more, subst (AreWithin n) more (within_left n (s ++ map f (take (i + 1) xs)) (map f (drop (i + 1) xs)) (subst (AreWithin n) (all_of f s xs (i + 1)) w)))
 
 -- ---- the first slot
 
 -- where there are slots, there is a first one
-pub first_slot : (slots : ℕ) (es : List Equation) (nodes : List (List Feature)) (root : ℕ) → 0 < slots → IsLeastAt slots es nodes root → HasSlot nodes root
-first_slot slots es nodes root some at =
+pub first_slot : (S : Structure) (v : Value) (slots : ℕ) (es : List Equation) → 0 < slots → ((cs : List ℕ) → length cs ≡ slots → IsLeastOf (RuleAt (variant cs es)) S v) → HasSlot S v
+first_slot S v slots es some least =
     let cs = replicate slots 0 in
     let count = length-replicate {A = ℕ} slots 0 in
-    let holds = (at.least cs count).holds in
-    let v = get_there holds.0 0 (omega (arith, some, holds.1.count, count)) in
-    (v.0, holds.2 0 v.0 v.1)
+    let holds = (least cs count).holds in
+    let x = get_there holds.0 0 (omega (arith, some, holds.1.count, count)) in
+    (x.0, holds.2 0 x.0 x.1)
 
 -- a value into which a node with a first slot maps has one, so it is a node
-pub still_new : (left : List (List Feature)) (l : ℕ) (whole : Structure) (y : Value) (nodes : List (List Feature)) (r : Ref) → HasSlot left l → MapsInto (own_nodes left) (Node l) whole y → MapsInto whole y (own_nodes nodes) (own_value r)
-    → IsRooted nodes r → IsNew r
-still_new left l whole y nodes r slot first second rooted =
-    let x = carries_arc (own_nodes left) whole first.by first.is_map (Node l) y first.root 0 slot.0 slot.1 in
-    let z = carries_arc whole (own_nodes nodes) second.by second.is_map y (own_value r) second.root 0 x.0 x.2 in
+pub still_new : (S : Structure) (x : Value) (nodes : List (List Feature)) (r : Ref) → HasSlot S x → MapsInto S x (own_nodes nodes) (own_value r) → IsRooted nodes r → IsNew r
+still_new S x nodes r slot into rooted =
+    let z = carries_arc S (own_nodes nodes) into.by into.is_map x (own_value r) into.root 0 slot.0 slot.1 in
     go r rooted.root z.0 z.2
   where
     go : (r : Ref) → IsOwn (length nodes) r → (w : Value) → arc (own_nodes nodes) (own_value r) 0 ≡ Some w → IsNew r
@@ -176,7 +182,7 @@ later_none low (f ∷ fs) rising =
     ap (λ b. cond b (Some (own_value f.to)) (along (own_arcs fs) 0)) (ne_eqb f.attribute.0 0 (λ e. omega (arith, e, rising 0 (omega arith)))) ∙ later_none f.attribute.0 fs (rising_tail low (attributes (f ∷ fs)) rising)
 
 -- so the arc of the first slot stands first
-pub slot_first : (nodes : List (List Feature)) (root : ℕ) (d : Feature) → IsOwnBlock nodes → HasSlot nodes root
+pub slot_first : (nodes : List (List Feature)) (root : ℕ) (d : Feature) → IsOwnBlock nodes → HasSlot (own_nodes nodes) (Node root)
     → (0 < length (get_or nodes root [])) × (arc (own_nodes nodes) (Node root) 0 ≡ Some (own_value (get_or (get_or nodes root []) 0 d).to))
 slot_first nodes root d own slot =
     let fs = get_or nodes root [] in

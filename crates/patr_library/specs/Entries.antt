@@ -1,7 +1,7 @@
 -- What a build keeps of an entry's variant.
 --     IsEntryStored          an item of an entry's variant: what the one slot of its least value has, in a block of its own
 --     AreEntriesDealt        these variants more have an item each, or no solution
-use Rattle.std.specs.Prelude.{◌≡◌, ℕ, List, length, Some}
+use Rattle.std.specs.Prelude.{◌≡◌, ℕ, List, length, map, Some}
 use Rattle.std.specs.declared.vec.Vec.{Vec}
 use Rattle.std.specs.declared.alloc.Global.{Global}
 use Rattle.std.specs.List.{sum_by}
@@ -61,12 +61,16 @@ abbrev pub AreEntriesDealt : Shown → Shown → List NumberedEntry → List Ent
 AreEntriesDealt v w ds old new = AreDealt HasEntryItem HasNoEntry v w ds old new
 
 -- the variant of an entry of the code with these equations of its features
-abbrev pub variant_of : Entry → Vec Equation Global → EntryVariant
-variant_of e es = entry_variant_of number keys (entry_seen e) (equations_at es.items)
+abbrev pub variant_of : Entry → List Equation → EntryVariant
+variant_of e es = entry_variant_of number keys (entry_seen e) (equations_at es)
+
+-- those with each of these lists of equations
+abbrev pub all_variants_of : Entry → List (Vec Equation Global) → List EntryVariant
+all_variants_of e vs = map (λ es. variant_of e es.items) vs
 
 -- the equations of the entry's variant with these equations of its features speak of its one value
 abbrev pub StaysAlone : Entry → Vec Equation Global → Type 0
-StaysAlone e es = AreWithin 1 (variant_of e es).equations
+StaysAlone e es = AreWithin 1 (variant_of e es.items).equations
 
 -- the variants of an entry of the code
 abbrev pub entry_variants_of : Entry → List EntryVariant

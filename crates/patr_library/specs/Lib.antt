@@ -5,4 +5,6 @@ pub mod Kept
 pub mod Lists
 pub mod Own
 pub mod Solved
+pub mod Starts
 pub mod Stored
+pub mod Workspaces

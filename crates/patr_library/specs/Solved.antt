@@ -1,7 +1,7 @@
 -- Least values of equations over slots, in blocks of their own.
-use Rattle.std.specs.Prelude.{◌≡◌, ℕ, zero, suc, List, [], ◌∷◌, length, Some}
+use Rattle.std.specs.Prelude.{◌≡◌, ℕ, zero, suc, List, [], ◌∷◌, length, Option, Some, None}
 use Rattle.patr_model.specs.Structure.{Value, Node, Structure, IsValue, IsStructure, arc}
-use Rattle.patr_model.specs.Subsumption.{TakesBoth, IsUnifier, Same}
+use Rattle.patr_model.specs.Subsumption.{TakesBoth, IsUnifier}
 use Rattle.patr_model.specs.Equation.{Equation}
 use Rattle.patr_model.specs.Variants.{variant, RuleAt, IsLeastOf}
 use Rattle.patr_arena.specs.declared.value.Ref.{Ref}
@@ -9,7 +9,7 @@ use Rattle.patr_arena.specs.declared.value.Ref.TheVariants as ref
 use Rattle.patr_arena.specs.declared.value.Feature.{Feature}
 use Rattle.patr_arena.specs.declared.value.Addr.{Addr}
 use Rattle.patr_arena.specs.declared.value.Value as its
-use Rattle.patr_arena.specs.Shown.{Shown, number_of, value_of}
+use Rattle.patr_arena.specs.Shown.{Shown, ValueIsHeld, number_of, value_of}
 use Rattle.patr_unify.specs.declared.build.Made.{Made}
 use Rattle.patr_unify.specs.Copying.{IsMade}
 use Rattle.patr_library.specs.Own.{own_nodes, own_value, IsRooted}
@@ -24,9 +24,9 @@ pub record IsLeastAt (slots : ℕ) (es : List Equation) (nodes : List (List Feat
   pub rooted : IsRooted nodes (ref.New root)
   pub least : (cs : List ℕ) → length cs ≡ slots → IsLeastOf (RuleAt (variant cs es)) (own_nodes nodes) (Node root)
 
--- the node of the block has a first slot
-abbrev pub HasSlot : List (List Feature) → ℕ → Type 0
-HasSlot nodes root = (x : Value) × (arc (own_nodes nodes) (Node root) 0 ≡ Some x)
+-- the value has a first slot
+abbrev pub HasSlot : Structure → Value → Type 0
+HasSlot S v = (x : Value) × (arc S v 0 ≡ Some x)
 
 -- it is a node of its block
 abbrev pub IsNew : Ref → Type 0
@@ -37,13 +37,19 @@ IsNew _ = ⊥
 abbrev pub HasNone : ℕ → List Equation → Type 0
 HasNone slots es = (cs : List ℕ) → length cs ≡ slots → (G : Structure) (v : Value) → IsStructure G → IsValue G v → RuleAt (variant cs es) G v → ⊥
 
--- the node of the block is the same as a unifier of both
-pub record IsUnified (left : List (List Feature)) (l : ℕ) (right : List (List Feature)) (r : Ref) (nodes : List (List Feature)) (root : ℕ) : Type 0 where
-  pub rooted : IsRooted nodes (ref.New root)
-  pub whole : Structure
-  pub at : Value
-  pub unifier : IsUnifier (own_nodes left) (Node l) [] (own_nodes right) (own_value r) whole at
-  pub same : Same whole at (own_nodes nodes) (Node root)
+-- a value that stands there and has a first slot, so it is a node
+pub record IsSlots (v : Shown) (x : its.Value) : Type 0 where
+  pub held : ValueIsHeld v x
+  pub slot : HasSlot v.structure (value_of v x)
+
+-- the value is the least value of slots, so many, at which the equations hold
+abbrev pub IsLeastIn : Shown → ℕ → List Equation → its.Value → Type 0
+IsLeastIn v slots es x = (cs : List ℕ) → length cs ≡ slots → IsLeastOf (RuleAt (variant cs es)) v.structure (value_of v x)
+
+-- the value is a unifier of one that stood there before and of the block's value
+pub record IsUnified (v w : Shown) (left : its.Value) (right : List (List Feature)) (r : Ref) (made : its.Value) : Type 0 where
+  pub slots : IsSlots w made
+  pub unifier : IsUnifier v.structure (value_of v left) [] (own_nodes right) (own_value r) w.structure (value_of w made)
 
 -- what unification made of a node and a value that stand in one arena
 abbrev pub IsMadeOf : Shown → Addr → its.Value → Made → Type 0
@@ -53,6 +59,7 @@ IsMadeOf v left right m = IsMade v (number_of v left.block left.offset) [] (valu
 abbrev pub HaveNoUnifier : Shown → Addr → its.Value → Type 0
 HaveNoUnifier v left right = (G : Structure) (y : Value) → TakesBoth v.structure (Node (number_of v left.block left.offset)) [] v.structure (value_of v right) G y → ⊥
 
--- no structure takes both
-abbrev pub TakeNone : List (List Feature) → ℕ → List (List Feature) → Ref → Type 0
-TakeNone left l right r = (G : Structure) (v : Value) → TakesBoth (own_nodes left) (Node l) [] (own_nodes right) (own_value r) G v → ⊥
+-- a unifier of both, or no structure takes both
+abbrev pub AreUnified : Shown → Shown → its.Value → List (List Feature) → Ref → Option its.Value → Type 0
+AreUnified v w left right r None = (G : Structure) (y : Value) → TakesBoth v.structure (value_of v left) [] (own_nodes right) (own_value r) G y → ⊥
+AreUnified v w left right r (Some made) = IsUnified v w left right r made

@@ -11,9 +11,11 @@ ghost use Rattle.patr_expand.specs.Seen.{IsRefusedBy, equations_at, variant_at};
 ghost use Rattle.patr_library.specs.Own.{IsOwnBlock};
 ghost use Rattle.patr_library.specs.Built.{AreRulesDealt, IsRuleDealt, StaysWithin, all_numbered, numbered, numbered_from, variants_of};
 
+use crate::copying::count_arcs;
 use crate::item::RuleItem;
-use crate::solving::{Least, solved};
-use patr_arena::{Addr, Block, Memory, PlainArena};
+use crate::solving::{Start, solved};
+use crate::workspace::Least;
+use patr_arena::{Addr, Memory, PlainArena};
 use patr_expand::{ExpandCause, RuleVariant, expand_rule};
 use patr_grammar::Grammar;
 use patr_scratch::Scratch;
@@ -26,18 +28,6 @@ pub(crate) struct Placement {
     pub(crate) root: Addr,
     pub(crate) nodes: u64,
     pub(crate) arcs: u64,
-}
-
-/// How many arcs a block has.
-fn count_arcs(block: &Block) -> Result<u64, Memory>
-    ensures { IfOk result (λ arcs. arcs ≡ sum_by length block.now) }
-{
-    let mut arcs: u64 = 0;
-    for offset in 0..block.len() {
-        let more = block.arcs(offset).len() as u64;
-        arcs = arcs.checked_add(more).ok_or(AllocError)?;
-    }
-    Ok(arcs)
 }
 
 /// Puts a block behind the others of the arena.
@@ -73,7 +63,7 @@ fn keep_rule(
 {
     let mother = variant.symbols[0];
     let count = variant.symbols.len() as u32;
-    let Some(least) = solved(alloc, count, &variant.equations, scratch)? else {
+    let Some(least) = solved(alloc, Start::Slots(count), &variant.equations, scratch)? else {
         return Ok(());
     };
     let made = store(arena, least)?;

@@ -1,5 +1,6 @@
 //! The nodes that a value reaches, copied into one block.
 ghost use Rattle.std.specs.Prelude.{◌≡◌, true, IfOk, OnOk, length};
+ghost use Rattle.std.specs.List.{sum_by};
 ghost use Rattle.std.specs.List.Sorted.{IsStrictlyIncreasing};
 ghost use Rattle.patr_model.specs.Subsumption.{Same};
 ghost use Rattle.patr_arena.specs.Arenas.{shown_of};
@@ -11,6 +12,18 @@ ghost use Rattle.patr_library.specs.Copies.{AreCopies, AreImages, AreReached, Ha
 use crate::stating::{Rooted, top};
 use patr_arena::{Addr, Block, Feature, Memory, Nodes, PlainArena, Ref, Value};
 use std::alloc::{AllocError, Global};
+
+/// How many arcs a block has.
+pub(crate) fn count_arcs(block: &Block) -> Result<u64, Memory>
+    ensures { IfOk result (λ arcs. arcs ≡ sum_by length block.now) }
+{
+    let mut arcs: u64 = 0;
+    for offset in 0..block.len() {
+        let more = block.arcs(offset).len() as u64;
+        arcs = arcs.checked_add(more).ok_or(AllocError)?;
+    }
+    Ok(arcs)
+}
 
 /// Puts a block behind the others, and the addresses of its nodes behind theirs.
 pub(crate) fn push(

@@ -10,6 +10,7 @@ mod library;
 mod making;
 mod solving;
 mod stating;
+mod workspace;
 
 pub use item::{BuildFault, EntryItem, RuleItem};
 pub use library::Library;

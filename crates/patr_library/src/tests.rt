@@ -5,8 +5,8 @@ ghost use Rattle.patr_arena.specs.declared.value.Ref.TheVariants as ref;
 ghost use Rattle.patr_library.specs.Own.{IsRooted};
 
 use super::*;
-use crate::solving::Least;
 use crate::stating::top;
+use crate::workspace::Least;
 use patr_arena::{Addr, Block, Feature, Nodes, PlainArena, Ref, SentenceArena, Value, maps_into};
 use patr_expand::ExpandCause;
 use patr_grammar::read_grammar;

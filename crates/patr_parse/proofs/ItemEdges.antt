@@ -8,7 +8,7 @@ use Rattle.patr_chart.specs.declared.edge.EdgeKind.TheVariants.{Entry}
 use Rattle.patr_library.specs.Stored.{IsEntryItem}
 use Rattle.patr_parse.specs.Begun.{begun_of, begun, leaf_of, leaf}
 use Rattle.patr_parse.proofs.Counted.{counts_below}
-use Rattle.patr_parse.proofs.Reached.{counts_there}
+use Rattle.patr_library.proofs.Reached.{counts_there}
 use Rattle.patr_parse.proofs.Growing.{value_still, least_still, bounds_still}
 use Rattle.patr_parse.proofs.Joins.{root_of_edge, slot_reached}
 use Rattle.patr_parse.proofs.Items.{rule_item, entry_item}

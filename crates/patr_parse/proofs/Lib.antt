@@ -2,8 +2,6 @@ pub mod Names
 pub mod Longer
 pub mod Renumbered
 pub mod Counted
-pub mod Reached
-pub mod Room
 pub mod Numbers
 pub mod Growing
 pub mod Joins

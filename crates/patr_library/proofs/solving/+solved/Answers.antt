@@ -1,62 +1,77 @@
-use Rattle.std.proofs.Common.{subst, rules}
-use Rattle.patr_library.proofs.Names.{AreWithin, equation_at, equations_at, HasNone, IsLeastAt, IsUnified, TakeNone}
-use Rattle.patr_arena.specs.declared.value.Ref.TheVariants as ref
-use Rattle.patr_library.proofs.Placing.{each_some, each_none}
-use Rattle.patr_library.proofs.Steps.{first_slot, none_still}
-use Rattle.patr_library.proofs.Parts.{cut_at, least_of_both, none_of_both, none_of_back}
+use Rattle.std.proofs.Common.{◌<◌, ◌++◌, rules, sym, subst}
+use Rattle.patr_library.proofs.Names.{AreWithin, equation_at, equations_at, HasNone, IsLeastAt, IsSolved, slots_of, stated_of}
+use Rattle.patr_library.proofs.Steps.{none_still}
+use Rattle.patr_library.proofs.Parts.{cut_at, none_of_back}
 use Rattle.patr_library.proofs.solving.+solved.Goals as goal
 
 pub solved-requires : goal.solved-requires
 solved-requires t c =
-    let cut = cut_at equation_at c.args.slots c.args.equations.now c.split_at.result.0.now c.split_at.result.1.now _ c.split_at.ensures.front c.split_at.ensures.back c.requires.within in
-    let within : AreWithin c.args.slots (equations_at c.split_at.result.0.now) = cut.left in
+    let n = slots_of c.args.start in
+    let s = stated_of c.args.start in
+    let cut = cut_at equation_at n s c.args.equations.now c.split_at.result.0.now c.split_at.result.1.now _ c.split_at.ensures.front c.split_at.ensures.back c.requires.within in
+    let within : AreWithin n (s ++ equations_at c.split_at.result.0.now) = cut.left in
     search rules
 
 pub solved-requires-2 : goal.solved-requires-2
 solved-requires-2 t c =
-    let cut = cut_at equation_at c.args.slots c.args.equations.now c.split_at.result.0.now c.split_at.result.1.now _ c.split_at.ensures.front c.split_at.ensures.back c.requires.within in
-    let within : AreWithin c.args.slots (equations_at c.split_at.result.1.now) = cut.right in
+    let n = slots_of c.args.start in
+    let back = equations_at c.split_at.result.1.now in
+    let rest = c.without_facts.result in
+    let cut = cut_at equation_at n (stated_of c.args.start) c.args.equations.now c.split_at.result.0.now c.split_at.result.1.now _ c.split_at.ensures.front c.split_at.ensures.back c.requires.within in
+    let any : 0 < slots_of rest = subst (λ m. 0 < m) (sym c.without_facts.ensures.slots) c.requires.any in
+    let within : AreWithin (slots_of rest) (stated_of rest ++ back) =
+    subst (λ m. AreWithin m (stated_of rest ++ back)) (sym c.without_facts.ensures.slots) (subst (λ s. AreWithin n (s ++ back)) (sym c.without_facts.ensures.stated) cut.right) in
     search rules
 
-pub returns-in_default-clause-none : goal.returns-in_default-clause-none
-returns-in_default-clause-none t c =
-    let cut = cut_at equation_at c.args.slots c.args.equations.now c.split_at.result.0.now c.split_at.result.1.now _ c.split_at.ensures.front c.split_at.ensures.back c.requires.within in
-    let none : HasNone c.args.slots (equations_at c.split_at.result.0.now) = search rules in
-    subst (HasNone c.args.slots) cut.is (none_still c.args.slots _ _ none)
-
-pub returns-in_default-2-clause-none : goal.returns-in_default-2-clause-none
-returns-in_default-2-clause-none t c =
-    let cut = cut_at equation_at c.args.slots c.args.equations.now c.split_at.result.0.now c.split_at.result.1.now _ c.split_at.ensures.front c.split_at.ensures.back c.requires.within in
-    let none : HasNone c.args.slots (equations_at c.split_at.result.1.now) = search rules in
-    subst (HasNone c.args.slots) cut.is (none_of_back c.args.slots _ _ none)
-
-pub unified-requires-clause-slot : goal.unified-requires-clause-slot
-unified-requires-clause-slot t c =
-    let left = c.in-Some.left in
+pub returns-in_default : goal.returns-in_default
+returns-in_default t c =
+    let n = slots_of c.args.start in
+    let s = stated_of c.args.start in
     let front = equations_at c.split_at.result.0.now in
-    let a : IsLeastAt c.args.slots front left.block left.root = search rules in
-    first_slot c.args.slots front left.block left.root c.requires.any a
+    let back = equations_at c.split_at.result.1.now in
+    let cut = cut_at equation_at n s c.args.equations.now c.split_at.result.0.now c.split_at.result.1.now _ c.split_at.ensures.front c.split_at.ensures.back c.requires.within in
+    let none : HasNone n (s ++ front) = subst (IsSolved n (s ++ front)) c.in_default.is c.in_ok-left.ensures in
+    subst (HasNone n) cut.is (none_still n (s ++ front) back none)
 
-pub returns-clause-some : goal.returns-clause-some
-returns-clause-some t c =
-    let n = c.args.slots in
+pub returns-in_default-2 : goal.returns-in_default-2
+returns-in_default-2 t c =
+    let n = slots_of c.args.start in
+    let s = stated_of c.args.start in
+    let front = equations_at c.split_at.result.0.now in
+    let back = equations_at c.split_at.result.1.now in
+    let rest = c.without_facts.result in
+    let cut = cut_at equation_at n s c.args.equations.now c.split_at.result.0.now c.split_at.result.1.now _ c.split_at.ensures.front c.split_at.ensures.back c.requires.within in
+    let none : HasNone (slots_of rest) (stated_of rest ++ back) = subst (IsSolved (slots_of rest) (stated_of rest ++ back)) c.in_default-2.is c.in_ok-right.ensures in
+    subst (HasNone n) cut.is (none_of_back n (s ++ front) back (subst (λ m. HasNone m back) c.without_facts.ensures.slots (subst (λ l. HasNone (slots_of rest) (l ++ back)) c.without_facts.ensures.stated none)))
+
+pub unified-requires-clause-left : goal.unified-requires-clause-left
+unified-requires-clause-left t c =
+    let n = slots_of c.args.start in
+    let s = stated_of c.args.start in
+    let front = equations_at c.split_at.result.0.now in
+    let cut = cut_at equation_at n s c.args.equations.now c.split_at.result.0.now c.split_at.result.1.now _ c.split_at.ensures.front c.split_at.ensures.back c.requires.within in
+    let left : IsLeastAt n (s ++ front) c.in-Some.left.block c.in-Some.left.root = subst (IsSolved n (s ++ front)) c.in-Some.is c.in_ok-left.ensures in
+    (n, s ++ front, (c.requires.any, cut.left, left))
+
+pub unified-requires-clause-right : goal.unified-requires-clause-right
+unified-requires-clause-right t c =
+    let rest = c.without_facts.result in
+    let right : IsLeastAt (slots_of rest) (stated_of rest ++ equations_at c.split_at.result.1.now) c.in-Some-2.right.block c.in-Some-2.right.root =
+    subst (IsSolved (slots_of rest) (stated_of rest ++ equations_at c.split_at.result.1.now)) c.in-Some-2.is c.in_ok-right.ensures in
+    right.rooted
+
+pub returns : goal.returns
+returns t c =
+    let n = slots_of c.args.start in
+    let s = stated_of c.args.start in
+    let front = equations_at c.split_at.result.0.now in
+    let back = equations_at c.split_at.result.1.now in
+    let rest = c.without_facts.result in
     let left = c.in-Some.left in
     let right = c.in-Some-2.right in
-    let cut = cut_at equation_at n c.args.equations.now c.split_at.result.0.now c.split_at.result.1.now _ c.split_at.ensures.front c.split_at.ensures.back c.requires.within in
-    let a : IsLeastAt n (equations_at c.split_at.result.0.now) left.block left.root = search rules in
-    let b : IsLeastAt n (equations_at c.split_at.result.1.now) right.block right.root = search rules in
-    each_some (λ made. IsUnified left.block left.root right.block (ref.New right.root) made.block made.root) (λ made. IsLeastAt n (equations_at c.args.equations.now) made.block made.root)
-    (λ made un. subst (λ es. IsLeastAt n es made.block made.root) cut.is (least_of_both n _ _ left.block left.root right.block right.root made.block made.root cut.left cut.right a b un))
-    c.in_ok-made.made c.in_ok-made.ensures.some
-
-pub returns-clause-none : goal.returns-clause-none
-returns-clause-none t c =
-    let n = c.args.slots in
-    let left = c.in-Some.left in
-    let right = c.in-Some-2.right in
-    let cut = cut_at equation_at n c.args.equations.now c.split_at.result.0.now c.split_at.result.1.now _ c.split_at.ensures.front c.split_at.ensures.back c.requires.within in
-    let a : IsLeastAt n (equations_at c.split_at.result.0.now) left.block left.root = search rules in
-    let b : IsLeastAt n (equations_at c.split_at.result.1.now) right.block right.root = search rules in
-    each_none (TakeNone left.block left.root right.block (ref.New right.root)) (HasNone n (equations_at c.args.equations.now))
-    (λ none. subst (HasNone n) cut.is (none_of_both n _ _ left.block left.root right.block right.root a b none))
-    c.in_ok-made.made c.in_ok-made.ensures.none
+    let cut = cut_at equation_at n s c.args.equations.now c.split_at.result.0.now c.split_at.result.1.now _ c.split_at.ensures.front c.split_at.ensures.back c.requires.within in
+    let a : IsLeastAt n (s ++ front) left.block left.root = subst (IsSolved n (s ++ front)) c.in-Some.is c.in_ok-left.ensures in
+    let b : IsLeastAt (slots_of rest) (stated_of rest ++ back) right.block right.root = subst (IsSolved (slots_of rest) (stated_of rest ++ back)) c.in-Some-2.is c.in_ok-right.ensures in
+    let d : IsLeastAt n back right.block right.root =
+    subst (λ m. IsLeastAt m back right.block right.root) c.without_facts.ensures.slots (subst (λ l. IsLeastAt (slots_of rest) (l ++ back) right.block right.root) c.without_facts.ensures.stated b) in
+    subst (λ es. IsSolved n es c.in_ok-made.made) cut.is (c.in_ok-made.ensures n (s ++ front) back (c.requires.any, cut.left, a) cut.right d)

@@ -1,7 +1,7 @@
 use Rattle.std.proofs.Common.{refl, subst}
 use Rattle.patr_parse.proofs.Names.{number_of, value_of, value_below, held_below}
 use Rattle.patr_scratch.specs.Contents.{HasRoom}
-use Rattle.patr_parse.proofs.Room.{decision_room}
+use Rattle.patr_library.proofs.Room.{decision_room}
 use Rattle.patr_parse.proofs.work.has_unifier.Goals as goal
 
 pub decide-requires-clause-room : goal.decide-requires-clause-room

@@ -2,8 +2,8 @@
 use Rattle.std.proofs.Common.{◌≡◌, ◌⊎◌, inl, inr, ℕ, zero, suc, ◌<◌, Bool, true, false, cond, nat_eq, eqb-true, List, [], ◌∷◌, length, Option, Some, None, option_and_then, slice_get, refl, sym, ap, ◌∙◌, arith, subst}
 use Rattle.std.proofs.lemmas.Bool.{eqb-false, cases_eq}
 use Rattle.patr_lists.proofs.Members.{in_or_not}
-use Rattle.patr_lists.specs.Members.{IsIn}
-use Rattle.patr_parse.proofs.Names.{Value, Atom, Node, Structure, arc, IsReached, IsValue, IsStructure, some_inj, and_then_some, NoRepeats, own, total, Counts}
+use Rattle.patr_lists.specs.Members.{IsIn, NoRepeats}
+use Rattle.patr_library.proofs.Names.{Value, Atom, Node, Structure, arc, IsReached, IsValue, IsStructure, some_inj, and_then_some, own, total, Counts}
 use Rattle.patr_model.specs.Structure.{Arc, Arcs, along, HasDistinct, arcs_of, at, IsBelow}
 use Rattle.patr_unify.specs.Deciding.{IsReachOf}
 
@@ -47,7 +47,7 @@ along_there (e ∷ es) a x h = go (nat_eq e.attribute a) h (along_there es a x)
     go true q rest = (zero, e, refl, some_inj e.to x q)
     go false q rest = let r = rest q in (suc r.0, r.1, r.2, r.3)
 
-there_along : (es : Arcs) → HasDistinct es → (i : ℕ) (e : Arc) → slice_get es i ≡ Some e → along es e.attribute ≡ Some e.to
+pub there_along : (es : Arcs) → HasDistinct es → (i : ℕ) (e : Arc) → slice_get es i ≡ Some e → along es e.attribute ≡ Some e.to
 there_along [] d i e h = cc
 there_along (f ∷ es) d zero e h = go (nat_eq f.attribute e.attribute) refl
   where
