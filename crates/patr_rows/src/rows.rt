@@ -1,7 +1,10 @@
 //! Grammars, sentences and their replies; refused words and files.
 
-use crate::devices::{gives, well};
+use crate::devices::{Setting, gives, well};
+use std::alloc::Global;
+use std::sync::Wait;
 use std::test::Fail;
+use std::thread::Threads;
 
 pub const FILES: &[&str] = &["g", "l"];
 
@@ -78,200 +81,94 @@ const SENTENCES: &[Row] = &[
     },
 ];
 
+/// The number of the first row that gives something else, where one does.
+pub fn first_other<R: Threads + Wait + Sync>(
+    rt: &R,
+    alloc: Global,
+    rows: &[Row],
+) -> Result<Option<usize>, Fail> {
+    for (k, row) in rows.iter().enumerate() {
+        let setting = well(row.grammar, row.lexicon, row.input);
+        if !gives(rt, alloc, FILES, setting, row.code, row.written)? {
+            return Ok(Some(k));
+        }
+    }
+    Ok(None)
+}
+
 #[test]
 fn sentences_are_answered(rt: HostRuntime) -> Result<(), Fail> {
-    let alloc = rt.alloc();
-    for (k, row) in SENTENCES.iter().enumerate() {
-        let setting = well(row.grammar, row.lexicon, row.input);
-        assert!(rt;
-            gives(&rt, alloc, FILES, setting, row.code, row.written)?,
-            "row {k}"
-        );
-    }
+    assert_eq!(rt; first_other(&rt, rt.alloc(), SENTENCES)?, None);
     Ok(())
 }
 
-/// Files that are refused.
-const REFUSED: &[Row] = &[
-    Row {
-        grammar: b"Rule S -> NP VP <NP agr> =",
-        lexicon: ANIMALS,
-        input: b"the dog barks\n",
-        code: 2,
-        written: b"error: grammar 1:27: expected a path or an atom\n",
-    },
-    Row {
-        grammar: b"Rule S -> A <B f> = x",
-        lexicon: ANIMALS,
-        input: b"",
-        code: 2,
-        written: b"error: grammar 1:14: not a constituent\n",
-    },
-    Row {
-        grammar: b"Rule S -> A : <S f",
-        lexicon: ANIMALS,
-        input: b"",
-        code: 2,
-        written: b"error: grammar 1:19: expected '>'\n",
-    },
-    Row {
-        grammar: b"",
-        lexicon: ANIMALS,
-        input: b"",
-        code: 2,
-        written: b"error: grammar: no rules\n",
-    },
-    Row {
-        grammar: b"\x01",
-        lexicon: ANIMALS,
-        input: b"",
-        code: 2,
-        written: b"error: grammar 1:1: bad character\n",
-    },
-    Row {
-        grammar: b"\xFF",
-        lexicon: ANIMALS,
-        input: b"",
-        code: 2,
-        written: b"error: grammar: not UTF-8 at byte 0\n",
-    },
-    Row {
-        grammar: b"S -> NP",
-        lexicon: ANIMALS,
-        input: b"",
-        code: 2,
-        written: b"error: grammar 1:1: expected a clause\n",
-    },
-    Row {
-        grammar: b"Rule S NP",
-        lexicon: ANIMALS,
-        input: b"",
-        code: 2,
-        written: b"error: grammar 1:8: expected '->'\n",
-    },
-    Row {
-        grammar: b"Rule {S} -> A",
-        lexicon: ANIMALS,
-        input: b"",
-        code: 2,
-        written: b"error: grammar 1:10: expected a symbol\n",
-    },
-    Row {
-        grammar: b"Rule {S -> A",
-        lexicon: ANIMALS,
-        input: b"",
-        code: 2,
-        written: b"error: grammar 1:13: expected '}'\n",
-    },
-    Row {
-        grammar: b"Rule S -> A .\nRule let",
-        lexicon: ANIMALS,
-        input: b"",
-        code: 2,
-        written: b"error: grammar 2:6: expected a symbol\n",
-    },
-    Row {
-        grammar: b"Rule S -> ( A",
-        lexicon: ANIMALS,
-        input: b"",
-        code: 2,
-        written: b"error: grammar 1:11: not built yet\n",
-    },
-    Row {
-        grammar: b"Rule S -> A {",
-        lexicon: ANIMALS,
-        input: b"",
-        code: 2,
-        written: b"error: grammar 1:13: not built yet\n",
-    },
-    Row {
-        grammar: b"Let A be <x> = y",
-        lexicon: ANIMALS,
-        input: b"",
-        code: 2,
-        written: b"error: grammar 1:1: not built yet\n",
-    },
-    Row {
-        grammar: b"Rule S -> A B C D E F G H I J K L M N O P Q R S T U V W X Y Z A B C D E F G",
-        lexicon: ANIMALS,
-        input: b"",
-        code: 2,
-        written: b"error: grammar 1:75: too many symbols\n",
-    },
-    Row {
-        grammar: BARKS,
-        lexicon: b"x",
-        input: b"",
-        code: 3,
-        written: b"error: lexicon 1: no word\n",
-    },
-    Row {
-        grammar: BARKS,
-        lexicon: b"\\w a",
-        input: b"",
-        code: 3,
-        written: b"error: lexicon 1: no category\n",
-    },
-    Row {
-        grammar: BARKS,
-        lexicon: b"\\w a\n\\c A\n\\w\n\\c",
-        input: b"",
-        code: 3,
-        written: b"error: lexicon 3: no word\n",
-    },
-    Row {
-        grammar: BARKS,
-        lexicon: b"\n\\w a b\n",
-        input: b"",
-        code: 3,
-        written: b"error: lexicon 2: several words\n",
-    },
-    Row {
-        grammar: BARKS,
-        lexicon: b"\\w a\n\\c A B\n",
-        input: b"",
-        code: 3,
-        written: b"error: lexicon 1: no category\n",
-    },
-    Row {
-        grammar: BARKS,
-        lexicon: b"\\w a\n\\c A\n\\f ; no\n  { <agr> = x }",
-        input: b"",
-        code: 3,
-        written: b"error: lexicon 4:3: not built yet\n",
-    },
-    Row {
-        grammar: BARKS,
-        lexicon: b"\\w a\n\\c A\n\\f <x> =",
-        input: b"",
-        code: 3,
-        written: b"error: lexicon 3:9: expected a path or an atom\n",
-    },
-    Row {
-        grammar: BARKS,
-        lexicon: b"\\w a\x07",
-        input: b"",
-        code: 3,
-        written: b"error: lexicon 1:5: bad character\n",
-    },
-    Row {
-        grammar: BARKS,
-        lexicon: b"\\w \xFF",
-        input: b"",
-        code: 3,
-        written: b"error: lexicon: not UTF-8 at byte 3\n",
-    },
+/// Grammars, and why they are refused.
+const BAD_GRAMMARS: &[(&[u8], &str)] = &[
+    (
+        b"Rule S -> NP VP <NP agr> =",
+        " 1:27: expected a path or an atom",
+    ),
+    (b"Rule S -> A <B f> = x", " 1:14: not a constituent"),
+    (b"Rule S -> A : <S f", " 1:19: expected '>'"),
+    (b"", ": no rules"),
+    (b"\x01", " 1:1: bad character"),
+    (b"\xFF", ": not UTF-8 at byte 0"),
+    (b"S -> NP", " 1:1: expected a clause"),
+    (b"Rule S NP", " 1:8: expected '->'"),
+    (b"Rule {S} -> A", " 1:10: expected a symbol"),
+    (b"Rule {S -> A", " 1:13: expected '}'"),
+    (b"Rule S -> A .\nRule let", " 2:6: expected a symbol"),
+    (b"Rule S -> ( A", " 1:11: not built yet"),
+    (b"Rule S -> A {", " 1:13: not built yet"),
+    (b"Let A be <x> = y", " 1:1: not built yet"),
+    (
+        b"Rule S -> A B C D E F G H I J K L M N O P Q R S T U V W X Y Z A B C D E F G",
+        " 1:75: too many symbols",
+    ),
 ];
+
+/// Lexicons, and why they are refused.
+const BAD_LEXICONS: &[(&[u8], &str)] = &[
+    (b"x", " 1: no word"),
+    (b"\\w a", " 1: no category"),
+    (b"\\w a\n\\c A\n\\w\n\\c", " 3: no word"),
+    (b"\n\\w a b\n", " 2: several words"),
+    (b"\\w a\n\\c A B\n", " 1: no category"),
+    (
+        b"\\w a\n\\c A\n\\f ; no\n  { <agr> = x }",
+        " 4:3: not built yet",
+    ),
+    (
+        b"\\w a\n\\c A\n\\f <x> =",
+        " 3:9: expected a path or an atom",
+    ),
+    (b"\\w a\x07", " 1:5: bad character"),
+    (b"\\w \xFF", ": not UTF-8 at byte 3"),
+];
+
+/// Whether a run refuses this file, `grammar` or `lexicon`, so.
+fn refuses<R: Threads + Wait + Sync>(
+    rt: &R,
+    alloc: Global,
+    setting: Setting,
+    file: &str,
+    code: u8,
+    why: &str,
+) -> Result<bool, Fail> {
+    let line = format!(in alloc; "error: {file}{why}\n")?;
+    gives(rt, alloc, FILES, setting, code, line.as_bytes())
+}
 
 #[test]
 fn files_are_refused(rt: HostRuntime) -> Result<(), Fail> {
     let alloc = rt.alloc();
-    for (k, row) in REFUSED.iter().enumerate() {
-        let setting = well(row.grammar, row.lexicon, row.input);
-        assert!(rt;
-            gives(&rt, alloc, FILES, setting, row.code, row.written)?,
-            "row {k}"
-        );
+    for (grammar, why) in BAD_GRAMMARS {
+        let setting = well(grammar, ANIMALS, b"the dog barks\n");
+        assert!(rt; refuses(&rt, alloc, setting, "grammar", 2, why)?, "{why}");
+    }
+    for (lexicon, why) in BAD_LEXICONS {
+        let setting = well(BARKS, lexicon, b"");
+        assert!(rt; refuses(&rt, alloc, setting, "lexicon", 3, why)?, "{why}");
     }
     Ok(())
 }

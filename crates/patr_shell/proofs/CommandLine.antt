@@ -56,10 +56,18 @@ pub ends_without_value : (s : SaidRead) (flag : OptionRead) → said_in_all s (S
 ends_without_value s flag = ap (option_map (said_then (said_seen s))) (said_no_value (flag_seen flag))
 
 -- the words that are left, of which the first is this one
-pub words_left : {X : Type 0} (f : X → List ℕ) (xs : List X) (i : ℕ) (x : X) (w : List ℕ) → i < length xs → x ≡ get_or xs i x → w ≡ f x → drop i (map f xs) ≡ w ∷ drop (i + 1) (map f xs)
+words_left : {X : Type 0} (f : X → List ℕ) (xs : List X) (i : ℕ) (x : X) (w : List ℕ) → i < length xs → x ≡ get_or xs i x → w ≡ f x → drop i (map f xs) ≡ w ∷ drop (i + 1) (map f xs)
 words_left f xs i x w h e g =
     let at : get_or (map f xs) i (f x) ≡ w = get_or-map f xs i x (f x) h ∙ (ap f (sym e) ∙ sym g) in
     drop_more (map f xs) i (f x) (omega (arith, length-map xs f)) ∙ ap (λ y. y ∷ drop (i + 1) (map f xs)) at
+
+-- a word of them is taken, and what is said behind it is what was said of all
+pub takes : {X : Type 0} (f : X → List ℕ) (xs : List X) (i : ℕ) (x : X) (w : List ℕ) → i < length xs → x ≡ get_or xs i x → w ≡ f x
+    → (s t : SaidRead) (next : NextWord) (got after : Option NextWord) (all : Option Said) → got ≡ after → ((ws : List (List ℕ)) → said_in_all t got ws ≡ said_in_all s (Some next) (w ∷ ws))
+    → said_in_all s (Some next) (drop i (map f xs)) ≡ all → said_in_all t after (drop (i + 1) (map f xs)) ≡ all
+takes f xs i x w h e g s t next got after all is step whole =
+    let rest = drop (i + 1) (map f xs) in
+    ap (λ a. said_in_all t a rest) (sym is) ∙ (step rest ∙ (ap (said_in_all s (Some next)) (sym (words_left f xs i x w h e g)) ∙ whole))
 
 pub no_words_left : {X : Type 0} (f : X → List ℕ) (xs : List X) (i : ℕ) → length xs ≤ i → drop i (map f xs) ≡ []
 no_words_left f xs i h = drop_of_length-le (map f xs) (omega (arith, length-map xs f))

@@ -11,7 +11,7 @@ use Rattle.patr_shell.specs.declared.status.GrammarTrouble.{GrammarTrouble}
 use Rattle.patr_shell.specs.declared.status.GrammarTrouble.TheVariants as grammar_trouble
 use Rattle.patr_shell.specs.declared.status.LexiconTrouble.{LexiconTrouble}
 use Rattle.patr_shell.specs.declared.status.LexiconTrouble.TheVariants as lexicon_trouble
-use Rattle.patr_shell.specs.declared.status.Status.TheVariants.{Done, BadWords, BadGrammar, BadLexicon, ReadFault, WriteFault, Memory, InputTooLong}
+use Rattle.patr_shell.specs.declared.status.Status.TheVariants.{Done, BadGrammar, BadLexicon, ReadFault, WriteFault, Memory, InputTooLong}
 use Rattle.patr_shell.specs.declared.refusal.Refusal.TheVariants as refusal
 use Rattle.patr_shell.proofs.RunLaws.{one_opening, numbered_tables}
 

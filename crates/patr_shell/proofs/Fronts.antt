@@ -17,9 +17,6 @@ sent_more a b c text rest after n sent more is = record {
   appended = Appends-trans a b c sent.front (take n rest) sent.appended more;
 }
 
-pub sent_all : (a b : Option (List ℕ)) (text rest : List ℕ) → IsSent a b text rest → rest ≡ [] → Appends a b text
-sent_all a b text rest sent none = let whole : text ≡ sent.front = sent.split ∙ ap (λ (l : List ℕ). sent.front ++ l) none ∙ append-nil sent.front in rw whole sent.appended
-
 pub sent_kept : (a b c : Option (List ℕ)) (text rest : List ℕ) → IsSent a b text rest → Keeps b c → IsSent a c text rest
 sent_kept a b c text rest sent kept = record { front = sent.front; split = sent.split; appended = Appends-kept a b c sent.front sent.appended kept }
 

@@ -4,7 +4,7 @@ use Rattle.patr_shell.proofs.Names.{without_cr, whole_lines_of, Spoken, HasNoFee
 use Rattle.patr_shell.specs.declared.state.State.{State}
 use Rattle.patr_shell.proofs.Cuts.{line_ended, piece_ended, free_two, lines_of_free, piece_of_free}
 use Rattle.patr_shell.proofs.Ends.{take_once}
-use Rattle.patr_shell.proofs.Replying.{answered_none, answered_behind, answered_same, ended_behind, ended_longer, ended_same, begun_same, begun_behind, begun_longer, begun_of_answered}
+use Rattle.patr_shell.proofs.Replying.{What, Whole, Quits, Breaks, Has, has_same, has_behind, answered_none, ended_longer, begun_longer, begun_of_answered}
 
 -- the lines so far are answered, and those to come end in the rest, of which the held bytes are the beginning
 pub record InPiece (spoken : Spoken) (st mid : State) (bytes held rest : List ℕ) (a b : Option (List ℕ)) : Type 0 where
@@ -48,6 +48,10 @@ module _ (spoken : Spoken) (st : State) where
       same : take 4098 kept ≡ take 4098 (held ++ front)
       same = ap (take 4098) is ∙ take_once 4098 (held ++ front)
 
+      -- what came of the line
+      so_far : (what : What) → Has spoken what mid (without_cr kept ∷ []) b c → Has spoken what st (stands.done ++ without_cr (held ++ front) ∷ []) a c
+      so_far what has = has_behind spoken st mid stands.done (without_cr (held ++ front) ∷ []) a b c stands.answered what (has_same spoken kept (held ++ front) same [] mid b c what has)
+
       pub in_piece_line : (next : State) → HasAnswered spoken mid (without_cr kept ∷ []) next b c → InPiece spoken st next bytes [] behind a c
       in_piece_line next answered = record {
         done = stands.done ++ without_cr (held ++ front) ∷ [];
@@ -55,19 +59,14 @@ module _ (spoken : Spoken) (st : State) where
         part = stands.part ∙ next_part;
         free = refl;
         short = omega arith;
-        answered = answered_behind spoken st mid stands.done (without_cr (held ++ front) ∷ []) a b c stands.answered next
-            (answered_same spoken kept (held ++ front) same [] mid b c next answered);
+        answered = so_far (Whole next) answered;
       }
 
       pub in_piece_quit : HasEnded spoken mid (without_cr kept ∷ []) b c → HasEnded spoken st (whole_lines_of bytes) a c
-      in_piece_quit ended = subst (λ l. HasEnded spoken st l a c) (sym all_lines)
-          (ended_longer spoken st (stands.done ++ without_cr (held ++ front) ∷ []) (whole_lines_of behind) a c
-          (ended_behind spoken st mid stands.done (without_cr (held ++ front) ∷ []) a b c stands.answered (ended_same spoken kept (held ++ front) same [] mid b c ended)))
+      in_piece_quit ended = subst (λ l. HasEnded spoken st l a c) (sym all_lines) (ended_longer spoken st _ _ a c (so_far Quits ended))
 
       pub in_piece_fault : (fault : AnswerFault) → HasBegun spoken mid (without_cr kept ∷ []) fault b c → HasBegun spoken st (whole_lines_of bytes) fault a c
-      in_piece_fault fault begun = subst (λ l. HasBegun spoken st l fault a c) (sym all_lines)
-          (begun_longer spoken st (stands.done ++ without_cr (held ++ front) ∷ []) (whole_lines_of behind) fault a c
-          (begun_behind spoken st mid stands.done (without_cr (held ++ front) ∷ []) a b c stands.answered fault (begun_same spoken kept (held ++ front) same [] mid b c fault begun)))
+      in_piece_fault fault begun = subst (λ l. HasBegun spoken st l fault a c) (sym all_lines) (begun_longer spoken st _ _ fault a c (so_far (Breaks fault) begun))
 
     -- no line ends in the rest
     module _ (none : HasNoFeed rest) where

@@ -1,13 +1,13 @@
 -- What a line comes to, by what it is.
 use Rattle.std.proofs.Common.{◌≡◌, ℕ, ◌<◌, Bool, true, false, true≢false, cond, nat_eq, List, [], ◌∷◌, Option, Some, None, length, get_or, refl, sym, ap, ◌∙◌, subst, arith, eqb-true, eq-eqb, MatchBool, Bor, map, codes}
-use Rattle.patr_shell.proofs.Names.{Decides, same_text, solved, lines_with_commands, session_command, some_inj, Spoken, grounds, state_seen, command_seen, AreQuit, IsAnswerToCommand, IsAnswerToWords, Reply}
+use Rattle.patr_shell.proofs.Names.{Decides, same_text, solved, lines_with_commands, session_command, some_inj, Spoken, grounds, state_seen, command_seen, HasFirstWord, AreQuit, IsAnswerToCommand, IsAnswerToWords, Reply}
 use Rattle.std.specs.Option.{option_map, option_and_then}
 use Rattle.std.specs.String.{string_bytes}
 use Rattle.patr_shell.proofs.CommandLine.{not_same}
-use Rattle.patr_model.specs.Session.{Numbering, AgreesWith, Grounds, State, Command, Limit, Features, Count, Show, Grammar, Make, Quit, IsSentenceReply, IsWordsReply, IsColonReply, IsCommandReply, begins_with_colon, switch, number_of, line}
+use Rattle.patr_model.specs.Session.{Numbering, AgreesWith, Grounds, State, Command, Limit, Features, Count, Show, Grammar, Make, Quit, IsSentenceReply, IsWordsReply, IsColonReply, begins_with_colon, switch, number_of, line}
 use Rattle.patr_shell.specs.declared.state.State.{State as CodeState}
 use Rattle.patr_shell.specs.declared.command.Command.{Command as CodeCommand}
-use Rattle.patr_shell.specs.declared.command.Command.TheVariants.{Limit as CodeLimit, Features as CodeFeatures, Count as CodeCount, Quit as CodeQuit}
+use Rattle.patr_shell.specs.declared.command.Command.TheVariants.{Quit as CodeQuit}
 
 -- whether the first word begins with a colon
 colon_is : (w : List ℕ) (ws : List (List ℕ)) (r : Bool) → Decides r (get_or w 0 0 ≡ 58) → begins_with_colon (w ∷ ws) ≡ r
@@ -50,32 +50,14 @@ command_colon (w ∷ v ∷ []) c e =
     (either c (same_text w (codes ":make")) (option_map (λ n. Make n) (number_of 256 v)) None b (colon_text w (codes "make") (v ∷ [])) (λ q. cc))))) e
 command_colon (w ∷ v ∷ u ∷ ws) c e = cc
 
-module _ (s : Grounds) (st : State) where
-  -- a line that does not begin with a colon does not end the session
-  pub no_quit : (words : List (List ℕ)) (c : Command) → begins_with_colon words ≡ false → lines_with_commands.command words ≡ Some c → ⊥
-  no_quit words c q e = true≢false (sym (command_colon words c e) ∙ q)
-
-  -- the words are a sentence
-  pub words_sentence : (words : List (List ℕ)) (text : List ℕ) → 0 < length words → begins_with_colon words ≡ false → IsSentenceReply solved s st words text → IsWordsReply solved lines_with_commands s st words text st
-  words_sentence [] text some q r = absurd (omega (arith, some))
-  words_sentence (w ∷ ws) text some q r =
-      subst (λ b. MatchBool b (IsColonReply solved lines_with_commands s st (lines_with_commands.command (w ∷ ws)) text st) (IsSentenceReply solved s st (w ∷ ws) text × (st ≡ st))) (sym q) (r, refl)
-
-  -- they begin with a colon and spell no command
-  pub words_bad : (words : List (List ℕ)) (text : List ℕ) → 0 < length words → begins_with_colon words ≡ true → lines_with_commands.command words ≡ None → text ≡ line (codes "error: bad command")
-      → IsWordsReply solved lines_with_commands s st words text st
-  words_bad [] text some q none is = absurd (omega (arith, some))
-  words_bad (w ∷ ws) text some q none is =
-      subst (λ b. MatchBool b (IsColonReply solved lines_with_commands s st (lines_with_commands.command (w ∷ ws)) text st) (IsSentenceReply solved s st (w ∷ ws) text × (st ≡ st))) (sym q)
-      (subst (λ o. IsColonReply solved lines_with_commands s st o text st) (sym none) (is, refl))
-
-  -- they spell a command
-  pub words_command : (words : List (List ℕ)) (c : Command) (text : List ℕ) (end : State) → lines_with_commands.command words ≡ Some c → IsCommandReply solved lines_with_commands s st c text end
-      → IsWordsReply solved lines_with_commands s st words text end
-  words_command [] c text end e r = cc
-  words_command (w ∷ ws) c text end e r =
-      subst (λ b. MatchBool b (IsColonReply solved lines_with_commands s st (lines_with_commands.command (w ∷ ws)) text end) (IsSentenceReply solved s st (w ∷ ws) text × (end ≡ st))) (sym (command_colon (w ∷ ws) c e))
-      (subst (λ o. IsColonReply solved lines_with_commands s st o text end) (sym e) r)
+-- a reply to words, by whether the first begins with a colon
+by_colon : (s : Grounds) (st : State) (words : List (List ℕ)) (text : List ℕ) (end : State) (b : Bool) → 0 < length words → begins_with_colon words ≡ b
+    → MatchBool b (IsColonReply solved lines_with_commands s st (lines_with_commands.command words) text end) (IsSentenceReply solved s st words text × (end ≡ st))
+    → IsWordsReply solved lines_with_commands s st words text end
+by_colon s st [] text end b some is reply = absurd (omega (arith, some))
+by_colon s st (w ∷ ws) text end b some is reply = subst
+    (λ b. MatchBool b (IsColonReply solved lines_with_commands s st (lines_with_commands.command (w ∷ ws)) text end) (IsSentenceReply solved s st (w ∷ ws) text × (end ≡ st)))
+    (sym is) reply
 
 -- ---- what two words spell
 
@@ -86,19 +68,6 @@ spelled name value = lines_with_commands.command (name ∷ value ∷ [])
 -- a choice that is decided
 abbrev passed : Bool → Option Command → Option Command → Option Command
 passed t x y = option_and_then session_command (cond t x y)
-
-pub two_limit : (value : List ℕ) → spelled (codes ":limit") value ≡ option_and_then session_command (option_map (λ n. Limit n) (number_of 200000 value))
-two_limit value = refl
-
-pub two_features : (value : List ℕ) → spelled (codes ":features") value ≡ option_and_then session_command (option_map (λ b. Features b) (switch value))
-two_features value = refl
-
-pub two_count : (value : List ℕ) → spelled (codes ":count") value ≡ option_and_then session_command (option_map (λ b. Count b) (switch value))
-two_count value = refl
-
-no_more : (t : Bool) (x : Option Command) → option_and_then session_command x ≡ None → passed t x None ≡ None
-no_more true x e = e
-no_more false x e = refl
 
 pub two_others : (name value : List ℕ) → (name ≡ codes ":limit" → ⊥) → (name ≡ codes ":features" → ⊥) → (name ≡ codes ":count" → ⊥) → spelled name value ≡ None
 two_others name value a b c =
@@ -114,9 +83,6 @@ two_others name value a b c =
     later false true (Some n) = refl
     later false false n = refl
 
-pub one_quit : lines_with_commands.command (codes ":quit" ∷ []) ≡ Some Quit
-one_quit = refl
-
 pub one_other : (name : List ℕ) → (name ≡ codes ":quit" → ⊥) → lines_with_commands.command (name ∷ []) ≡ None
 one_other name h = ap (λ t. passed t (Some Quit) (cond (same_text name (codes ":grammar")) (Some Grammar) None)) (not_same name (codes ":quit") h) ∙ later (same_text name (codes ":grammar"))
   where
@@ -130,11 +96,9 @@ switch_others w a b =
     ∙ ap (λ t. cond t (Some false) None) (not_same w (codes "off") b)
 
 -- there are words, and whether the first begins with a colon
-pub first_word : (items : List (Bor (List ℕ))) (x : Bor (List ℕ)) (words : List (List ℕ)) (r : Bool) → map (λ (w : Bor (List ℕ)). w.now) items ≡ words → 0 < length items → x ≡ get_or items 0 x
-    → Decides r (get_or x.now 0 0 ≡ 58) → (0 < length words) × (begins_with_colon words ≡ r)
-first_word [] x words r are some is d = absurd (omega (arith, some))
-first_word (w ∷ ws) x words r are some is d = subst (λ vs. (0 < length vs) × (begins_with_colon vs ≡ r)) are
-    (omega arith, colon_is w.now (map (λ (w : Bor (List ℕ)). w.now) ws) r (subst (λ (v : Bor (List ℕ)). Decides r (get_or v.now 0 0 ≡ 58)) is d))
+pub first_word : (words : List (Bor (List ℕ))) (d : Bor (List ℕ)) (r : Bool) → 0 < length words → Decides r (get_or (get_or words 0 d).now 0 0 ≡ 58) → HasFirstWord (map (λ (w : Bor (List ℕ)). w.now) words) r
+first_word [] d r some is = absurd (omega (arith, some))
+first_word (w ∷ ws) d r some is = (omega arith, colon_is w.now (map (λ (w : Bor (List ℕ)). w.now) ws) r is)
 
 -- ---- answers
 
@@ -154,25 +118,28 @@ module _ (spoken : Spoken) (st : CodeState) where
   no_words words text none is = subst (λ ws. Replies ws text) (sym none) (λ q. cc, λ N agrees. (is, refl))
 
   -- the words are a sentence
-  pub sentence_answer : (words : List (List ℕ)) (text : List ℕ) → 0 < length words → begins_with_colon words ≡ false
+  pub sentence_answer : (words : List (List ℕ)) (text : List ℕ) (colon : Bool) → HasFirstWord words colon → colon ≡ false
       → ((N : Numbering) → AgreesWith N spoken.texts → IsSentenceReply solved (grounds N spoken) (state_seen st) words text) → Replies words text
-  sentence_answer words text some colon reply = (
-    λ q. true≢false (sym (command_colon words (command_seen CodeQuit) q) ∙ colon),
-    λ N agrees. words_sentence (grounds N spoken) (state_seen st) words text some colon (reply N agrees),
+  sentence_answer words text colon first is reply = (
+    λ q. true≢false (sym (command_colon words (command_seen CodeQuit) q) ∙ (first.1 ∙ is)),
+    λ N agrees. by_colon (grounds N spoken) (state_seen st) words text (state_seen st) false first.0 (first.1 ∙ is) (reply N agrees, refl),
   )
 
   -- they begin with a colon, and spell no command
-  pub bad_answer : (words : List (List ℕ)) (text : List ℕ) → 0 < length words → begins_with_colon words ≡ true → None ≡ lines_with_commands.command words
+  pub bad_answer : (words : List (List ℕ)) (text : List ℕ) (colon : Bool) → HasFirstWord words colon → colon ≡ true → None ≡ lines_with_commands.command words
       → text ≡ line (codes "error: bad command") → Replies words text
-  bad_answer words text some colon none is = (
+  bad_answer words text colon first begins none is = (
     λ q. let e : None ≡ Some Quit = none ∙ q in cc,
-    λ N agrees. words_bad (grounds N spoken) (state_seen st) words text some colon (sym none) is,
+    λ N agrees. by_colon (grounds N spoken) (state_seen st) words text (state_seen st) true first.0 (first.1 ∙ begins)
+        (subst (λ o. IsColonReply solved lines_with_commands (grounds N spoken) (state_seen st) o text (state_seen st)) none (is, refl)),
   )
 
   -- they spell a command
   pub command_answers : (words : List (List ℕ)) (c : CodeCommand) (a : Option Reply) → Some (command_seen c) ≡ lines_with_commands.command words → IsAnswerToCommand st c a → IsAnswerToWords spoken st words a
   command_answers words c None e h = sym e ∙ ap (λ x. Some (command_seen x)) h
-  command_answers words c (Some r) e h = (
+  command_answers [] c (Some r) e h = cc
+  command_answers (w ∷ ws) c (Some r) e h = (
     λ q. h.0 (is_quit c (some_inj (command_seen c) Quit (e ∙ q))),
-    λ N agrees. words_command (grounds N spoken) (state_seen st) words (command_seen c) (string_bytes r.text) (state_seen r.state) (sym e) (h.1 spoken N),
+    λ N agrees. by_colon (grounds N spoken) (state_seen st) (w ∷ ws) (string_bytes r.text) (state_seen r.state) true (omega arith) (command_colon (w ∷ ws) (command_seen c) (sym e))
+        (subst (λ o. IsColonReply solved lines_with_commands (grounds N spoken) (state_seen st) o (string_bytes r.text) (state_seen r.state)) e (h.1 spoken N)),
   )

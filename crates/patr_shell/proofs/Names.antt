@@ -21,7 +21,7 @@ pub use Rattle.patr_model.specs.Run.{Follows, IsOpening, IsOut, IsSession, Sessi
 pub use Rattle.patr_model.specs.Session.{AgreesWith, Cut, Grounds, IsQuit, IsSentenceReply, Numbering, Replied, cut_at, lines_by, lines_of, whole_lines_from, whole_lines_of, without_cr, without_empty, words_of}
 pub use Rattle.patr_model.specs.Solved.{solved}
 pub use Rattle.patr_model.specs.Table.{IsTable}
-pub use Rattle.patr_shell.specs.Answering.{AreQuit, HasAnswered, HasBegun, HasBegunSession, HasEnded, HasNoFeed, HasQuit, HasReached, HasTakenQuit, HasTold, HasWrittenSession, IsAnswer, IsAnswerToCommand, IsAnswerToWords, is_write_fault, last_line, last_of, last_piece, too_long_line}
+pub use Rattle.patr_shell.specs.Answering.{AreQuit, HasAnswered, HasBegun, HasBegunSession, HasEnded, HasFirstWord, HasNoFeed, HasQuit, HasReached, HasTakenQuit, HasTold, HasWrittenSession, IsAnswer, IsAnswerToCommand, IsAnswerToWords, is_write_fault, last_line, last_of, last_piece, too_long_line}
 pub use Rattle.patr_shell.specs.Outcome.{Builds, CannotLoad, HasAnsweredFirst, HasAnsweredTaken, HasBadGrammar, HasBadLexicon, HasBegunRun, HasGrammar, HasRun, HasRunSession, HasWritten, HaveSession, IsEndOf, IsFaultOf, IsOpened, IsSessionStatus, IsStatusOf, IsWithin, LooksAt, MayBeDone, Names, Writes, answer_status, ended_by_write, ending_of, grammar, is_definite, lexicon, refusal_line, status_of}
 pub use Rattle.patr_shell.specs.Sent.{AppendsFront, IsSent, PassesOn}
 pub use Rattle.patr_shell.specs.Spoken.{HasLimit, Spoken, command_seen, grounds, state_seen}

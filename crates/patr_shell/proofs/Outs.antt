@@ -1,7 +1,6 @@
 -- What a run writes, by its opening and its session.
-use Rattle.std.proofs.Common.{◌≡◌, ◌<◌, ◌≤◌, arith, ℕ, List, [], ◌∷◌, ◌++◌, Option, Some, None, IfSome, Bool, true, false, length, take, drop, refl, sym, ◌∙◌, ap, subst, inl, inr, append_assoc, append-nil, length-append, take-append-drop}
-use Rattle.patr_shell.proofs.Names.{Setup, Names, BuildFault, fault_ending, length-take, OnTrue, IsSomeAnd, get, Appends, Consumes, Files, solved, Numbering, AgreesWith, Grounds, Replied, whole_lines_of, lines_of, IsTable, InGrammar, InLexicon, build_fault_line, lines_with_commands, Answered, built, lexicon_fault_line, fault_of, cause_seen, Status, Refusal, Spoken, grounds, state_seen, AppendsFront, HasNoFeed, HasWrittenSession, HasBegunSession, is_definite, ending_of, HaveSession, IsSessionStatus, IsStatusOf, status_of, refusal_line, IsOpened, IsEndOf, Builds, HasWritten, HasBegunRun, Writes, HasAnsweredFirst, HasAnsweredTaken, HasRunSession, HasRun}
-use Rattle.patr_model.specs.Session as model
+use Rattle.std.proofs.Common.{◌≡◌, ◌<◌, ◌≤◌, arith, ℕ, List, [], ◌++◌, Option, Some, None, IfSome, Bool, true, false, length, take, drop, refl, sym, ◌∙◌, ap, subst, inl, inr, append_assoc, append-nil, length-append, take-append-drop}
+use Rattle.patr_shell.proofs.Names.{Setup, Names, BuildFault, fault_ending, length-take, OnTrue, IsSomeAnd, get, Appends, Consumes, Files, solved, Numbering, AgreesWith, whole_lines_of, lines_of, IsTable, InGrammar, InLexicon, build_fault_line, lines_with_commands, Answered, built, lexicon_fault_line, fault_of, cause_seen, Status, Refusal, Spoken, grounds, state_seen, AppendsFront, HasNoFeed, HasWrittenSession, HasBegunSession, is_definite, ending_of, HaveSession, IsSessionStatus, IsStatusOf, status_of, refusal_line, IsOpened, IsEndOf, Builds, HasWritten, HasBegunRun, Writes, HasAnsweredFirst, HasAnsweredTaken, HasRunSession, HasRun}
 use Rattle.patr_model.specs.Run as run
 use Rattle.patr_model.specs.Run.{Opening, Session, Refusal as Refuses, AfterWords, AfterGrammar, IsOpening, IsOut, Follows}
 use Rattle.patr_model.specs.GrammarText.{grammar_fault_line}
@@ -13,6 +12,7 @@ use Rattle.patr_shell.specs.declared.status.LexiconTrouble.TheVariants as lexico
 use Rattle.patr_shell.specs.declared.refusal.Refusal.TheVariants.{Words, Grammar, Lexicon}
 use Rattle.patr_shell.proofs.Cuts.{FirstLines, first_lines, lines_of_whole}
 use Rattle.patr_shell.proofs.Fronts.{no_front}
+use Rattle.patr_shell.proofs.Replying.{replied}
 use Rattle.patr_shell.proofs.RunLaws.{one_opening, numbered_tables, any_numbering}
 
 -- the bytes of a longer file
@@ -145,11 +145,6 @@ session_cause words files WriteFault have is = tt
 session_cause words files Memory have is = tt
 session_cause words files InputTooLong have is = have
 session_cause words files _ have is = cc
-
--- lines that were answered, and behind which nothing comes, are replied to up to their end
-replied : (s : Grounds) (st end : model.State) (ls : List (List ℕ)) (text : List ℕ) → Answered solved lines_with_commands s st ls text end → Replied solved lines_with_commands s st ls text false
-replied s st end [] text h = (h.0, refl)
-replied s st end (l ∷ ls) text h = inr (h.0, h.1, h.2, h.3, h.4, replied s h.2 end ls h.3 h.5, h.6)
 
 module _ (words : List (List ℕ)) (f : Files) (spoken : Spoken) (st : State) (opened : IsOpened words f spoken st) (table : IsTable spoken.texts) (left now a b : Option (List ℕ)) where
   -- the first lines of what was taken are answered

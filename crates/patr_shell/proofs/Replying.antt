@@ -98,6 +98,11 @@ module _ (s : Grounds) where
   end_behind st mid (l ∷ ls) ms x y first second =
       inr (first.0, first.1, first.2, first.3 ++ y, first.4, end_behind first.2 mid ls ms first.3 y first.5 second, ap (λ (t : List ℕ). t ++ y) first.6 ∙ append_assoc first.1 first.3 y)
 
+  -- lines that were answered, and behind which nothing comes, are replied to up to their end
+  pub replied : (st end : session.State) (ls : List (List ℕ)) (text : List ℕ) → Go st ls text end → Replied solved lines_with_commands s st ls text false
+  replied st end [] text h = (h.0, refl)
+  replied st end (l ∷ ls) text h = inr (h.0, h.1, h.2, h.3, h.4, replied h.2 end ls h.3 h.5, h.6)
+
   -- what stands behind the line that ends the session does not matter
   end_longer : (st : session.State) (ls ms : List (List ℕ)) (x : List ℕ) → End st ls x → End st (ls ++ ms) x
   end_longer st [] ms x h = let e : true ≡ false = h.1 in cc
@@ -118,10 +123,22 @@ module _ (s : Grounds) where
 
 -- ---- what reached the sink
 
+-- what came of lines: all were answered, one of them ended the session, or the first were answered and then a fault came
+pub data What : Type 0 where
+  Whole : State → What
+  Quits : What
+  Breaks : AnswerFault → What
+
+-- what came of the lines, by what reached the sink
+abbrev pub Has : Spoken → What → State → List (List ℕ) → Option (List ℕ) → Option (List ℕ) → Type 0
+Has spoken (Whole end) st ls a b = HasAnswered spoken st ls end a b
+Has spoken Quits st ls a b = HasEnded spoken st ls a b
+Has spoken (Breaks fault) st ls a b = HasBegun spoken st ls fault a b
+
 module _ (spoken : Spoken) where
   -- the first line is another with the same replies
   module _ (xs ys : List ℕ) (same : take 4098 xs ≡ take 4098 ys) (ls : List (List ℕ)) (st : State) (a b : Option (List ℕ)) where
-    pub answered_same : (end : State) → HasAnswered spoken st (without_cr xs ∷ ls) end a b → HasAnswered spoken st (without_cr ys ∷ ls) end a b
+    answered_same : (end : State) → HasAnswered spoken st (without_cr xs ∷ ls) end a b → HasAnswered spoken st (without_cr ys ∷ ls) end a b
     answered_same end h = record {
       text = h.text;
       replies = λ N agrees. go_same (grounds N spoken) xs ys same ls (state_seen st) (state_seen end) h.text (h.replies N agrees);
@@ -129,7 +146,7 @@ module _ (spoken : Spoken) where
       goes_on = λ stops. h.goes_on (quit_same ys xs (sym same) ls stops);
     }
 
-    pub ended_same : HasEnded spoken st (without_cr xs ∷ ls) a b → HasEnded spoken st (without_cr ys ∷ ls) a b
+    ended_same : HasEnded spoken st (without_cr xs ∷ ls) a b → HasEnded spoken st (without_cr ys ∷ ls) a b
     ended_same h = record {
       text = h.text;
       replies = λ N agrees. end_same (grounds N spoken) xs ys same ls (state_seen st) h.text (h.replies N agrees);
@@ -155,8 +172,13 @@ module _ (spoken : Spoken) where
           front = front;
         }
 
-    pub begun_same : (fault : AnswerFault) → HasBegun spoken st (without_cr xs ∷ ls) fault a b → HasBegun spoken st (without_cr ys ∷ ls) fault a b
+    begun_same : (fault : AnswerFault) → HasBegun spoken st (without_cr xs ∷ ls) fault a b → HasBegun spoken st (without_cr ys ∷ ls) fault a b
     begun_same fault h = begun_from fault h.some h.others h.text h.end h.split h.replies h.front
+
+    pub has_same : (what : What) → Has spoken what st (without_cr xs ∷ ls) a b → Has spoken what st (without_cr ys ∷ ls) a b
+    has_same (Whole end) h = answered_same end h
+    has_same Quits h = ended_same h
+    has_same (Breaks fault) h = begun_same fault h
 
   pub answered_none : (st : State) (a : Option (List ℕ)) → HasAnswered spoken st [] st a a
   answered_none st a = record { text = []; replies = λ N agrees. (refl, refl); sent = Appends-nil a; goes_on = λ stops. stops }
@@ -228,7 +250,7 @@ module _ (spoken : Spoken) where
 
   -- behind lines that are answered
   module _ (st mid : State) (ls ms : List (List ℕ)) (a b c : Option (List ℕ)) (h : HasAnswered spoken st ls mid a b) where
-    pub answered_behind : (end : State) → HasAnswered spoken mid ms end b c → HasAnswered spoken st (ls ++ ms) end a c
+    answered_behind : (end : State) → HasAnswered spoken mid ms end b c → HasAnswered spoken st (ls ++ ms) end a c
     answered_behind end k = record {
       text = h.text ++ k.text;
       replies = λ N agrees. go_on (grounds N spoken) (state_seen st) (state_seen mid) (state_seen end) ls ms h.text k.text (h.replies N agrees) (k.replies N agrees);
@@ -236,7 +258,7 @@ module _ (spoken : Spoken) where
       goes_on = λ stops. quit_of_two ls ms stops h.goes_on k.goes_on;
     }
 
-    pub ended_behind : HasEnded spoken mid ms b c → HasEnded spoken st (ls ++ ms) a c
+    ended_behind : HasEnded spoken mid ms b c → HasEnded spoken st (ls ++ ms) a c
     ended_behind k = record {
       text = h.text ++ k.text;
       replies = λ N agrees. end_behind (grounds N spoken) (state_seen st) (state_seen mid) ls ms h.text k.text (h.replies N agrees) (k.replies N agrees);
@@ -244,7 +266,7 @@ module _ (spoken : Spoken) where
       quit = quit_behind ls ms k.quit;
     }
 
-    pub begun_behind : (fault : AnswerFault) → HasBegun spoken mid ms fault b c → HasBegun spoken st (ls ++ ms) fault a c
+    begun_behind : (fault : AnswerFault) → HasBegun spoken mid ms fault b c → HasBegun spoken st (ls ++ ms) fault a c
     begun_behind fault k = record {
       some = ls ++ k.some;
       others = k.others;
@@ -254,3 +276,8 @@ module _ (spoken : Spoken) where
       replies = λ N agrees. go_on (grounds N spoken) (state_seen st) (state_seen mid) (state_seen k.end) ls k.some h.text k.text (h.replies N agrees) (k.replies N agrees);
       front = reached_behind fault a b c h.text k.text h.sent k.front;
     }
+
+    pub has_behind : (what : What) → Has spoken what mid ms b c → Has spoken what st (ls ++ ms) a c
+    has_behind (Whole end) k = answered_behind end k
+    has_behind Quits k = ended_behind k
+    has_behind (Breaks fault) k = begun_behind fault k

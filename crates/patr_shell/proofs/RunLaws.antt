@@ -1,13 +1,10 @@
 -- Laws of the definitions, as they are used here.
-use Rattle.patr_shell.proofs.Names.{solved, lines_with_commands, stage, built, IgnoresNumbers, HasOneOpening, SessionRepliesBegin, TablesAreNumbered, least_texts, replies_begin, stage_openings}
+use Rattle.patr_shell.proofs.Names.{lines_with_commands, stage, built, IgnoresNumbers, HasOneOpening, TablesAreNumbered, stage_openings}
 use Rattle.patr_model.proofs.Numberings.{tables_are_numbered}
 use Rattle.patr_model.proofs.RenamedRuns.{stage_same}
 
 pub one_opening : HasOneOpening built
 one_opening = stage_openings stage lines_with_commands
-
-pub sentences_begin : SessionRepliesBegin
-sentences_begin = λ s. replies_begin solved lines_with_commands s (least_texts s) (λ st c x y m n. absurd m)
 
 pub numbered_tables : TablesAreNumbered
 numbered_tables = tables_are_numbered

@@ -9,8 +9,8 @@ use Rattle.patr_shell.specs.declared.status.Status.TheVariants.{Memory, InputToo
 use Rattle.patr_shell.specs.declared.session.AnswerFault.TheVariants as answer_fault
 use Rattle.patr_shell.specs.declared.session.Next.TheVariants.{GoesOn, Ends}
 use Rattle.patr_shell.proofs.Cuts.{lines_of_two}
-use Rattle.patr_shell.proofs.Replying.{quit_longer, answered_kept, begun_of_answered, begun_longer}
-use Rattle.patr_shell.proofs.SessionStanding.{Stands, stands_piece, stands_end, ended_piece, ended_end, begun_piece, begun_end, begun_so_far}
+use Rattle.patr_shell.proofs.Replying.{Whole, Quits, Breaks, quit_longer, answered_kept, begun_of_answered, begun_longer}
+use Rattle.patr_shell.proofs.SessionStanding.{Stands, has_piece, stands_piece, has_end, begun_so_far}
 use Rattle.patr_shell.proofs.SessionTexts.{told, told_all, most, within_of, within_piece, at_limit_of, past_limit, front_within, front_whole, front_written, front_past, written_whole, written_ended, written_quit, written_past}
 
 -- a text that is written is a front of each
@@ -61,13 +61,13 @@ module _ {spoken : Spoken} {st mid : State} {held : List ℕ} {taken : ℕ} {sta
     module _ (end : IsAtEnd now) (c : Option (List ℕ)) where
       pub ended_whole : (goes : Next) (next : State) → HasTold spoken mid (last_line held) goes next b c → IfSome start (λ input. HasWrittenSession spoken st input Done a c)
       ended_whole GoesOn next answered = told_all start now bytes (λ input. HasWrittenSession spoken st input Done a c) read_all end
-          (written_whole spoken st next bytes a c short (stands_end spoken st mid bytes held a b stands c next answered))
+          (written_whole spoken st next bytes a c short (has_end spoken st mid bytes held a b stands (Whole next) c answered))
       ended_whole Ends next stops = told_all start now bytes (λ input. HasWrittenSession spoken st input Done a c) read_all end
-          (written_ended spoken st bytes a c short (ended_end spoken st mid bytes held a b stands c stops))
+          (written_ended spoken st bytes a c short (has_end spoken st mid bytes held a b stands Quits c stops))
 
       pub ended_front : (fault : AnswerFault) → HasBegun spoken mid (last_line held) fault b c → IfSome start (λ input. HasBegunSession spoken st input a c)
       ended_front fault begun = told_all start now bytes (λ input. HasBegunSession spoken st input a c) read_all end
-          (front_whole spoken st bytes fault a c short (begun_end spoken st mid bytes held a b stands c fault begun))
+          (front_whole spoken st bytes fault a c short (has_end spoken st mid bytes held a b stands (Breaks fault) c begun))
 
   -- a piece is read, of which this much is within the limit
   module _ (now : Option (List ℕ)) (buf : List ℕ) (count within : ℕ) (next : Consumes before now (take count buf)) (bound : count ≤ length buf) (fits : within ≡ min count (most - taken)) where
@@ -85,7 +85,7 @@ module _ {spoken : Spoken} {st mid : State} {held : List ℕ} {taken : ℕ} {sta
 
     module _ (c : Option (List ℕ)) (fault : AnswerFault) (begun : HasBegun spoken mid (whole_lines_of (held ++ take within buf)) fault b c) where
       all_begun : HasBegun spoken st (whole_lines_of (bytes ++ take within (take count buf))) fault a c
-      all_begun = begun_piece spoken st mid bytes held a b stands (take within (take count buf)) c fault
+      all_begun = has_piece spoken st mid bytes held a b stands (Breaks fault) (take within (take count buf)) c
           (subst (λ l. HasBegun spoken mid (whole_lines_of (held ++ l)) fault b c) (sym part) begun)
 
       pub begun_read : IfSome start (λ input. HasBegunSession spoken st input a c)
@@ -111,7 +111,7 @@ module _ {spoken : Spoken} {st mid : State} {held : List ℕ} {taken : ℕ} {sta
     -- a line of it ends the session
     module _ (c : Option (List ℕ)) (stops : HasEnded spoken mid (whole_lines_of (held ++ take within buf)) b c) where
       all_ended : HasEnded spoken st (whole_lines_of (bytes ++ take within (take count buf))) a c
-      all_ended = ended_piece spoken st mid bytes held a b stands (take within (take count buf)) c
+      all_ended = has_piece spoken st mid bytes held a b stands Quits (take within (take count buf)) c
           (subst (λ l. HasEnded spoken mid (whole_lines_of (held ++ l)) b c) (sym part) stops)
 
       pub quit_whole : IfSome start (λ input. HasWrittenSession spoken st input Done a c)

@@ -1,10 +1,10 @@
 -- Where a session stands after some bytes of the input.
 use Rattle.std.proofs.Common.{◌≡◌, ◌≤◌, ◌<◌, ℕ, List, [], ◌∷◌, ◌++◌, Option, length, take, refl, sym, ◌∙◌, ap, subst, arith, inl, inr}
-use Rattle.patr_shell.proofs.Names.{length-take, without_cr, without_empty, whole_lines_from, whole_lines_of, lines_of, Spoken, HasNoFeed, last_of, last_piece, last_line, HasAnswered, HasEnded, HasBegun, AnswerFault}
+use Rattle.patr_shell.proofs.Names.{length-take, without_cr, without_empty, whole_lines_from, whole_lines_of, lines_of, Spoken, HasNoFeed, last_of, last_piece, last_line, HasAnswered, HasBegun, AnswerFault}
 use Rattle.patr_shell.specs.declared.state.State.{State}
 use Rattle.patr_shell.proofs.Cuts.{cut, lines_behind, piece_behind, piece_is_free, take_is_free, lines_of_two, piece_of_two, lines_are}
 use Rattle.patr_shell.proofs.Ends.{kept_behind, take_once}
-use Rattle.patr_shell.proofs.Replying.{one_or_long, answered_none, answered_behind, answered_same, ended_behind, ended_same, begun_same, begun_behind, begun_of_answered}
+use Rattle.patr_shell.proofs.Replying.{What, Whole, Has, one_or_long, has_same, has_behind, begun_of_answered}
 
 -- the lines so far are answered, and what stands behind them is held as far as it matters
 pub record Stands (spoken : Spoken) (st mid : State) (bytes held : List ℕ) (a b : Option (List ℕ)) : Type 0 where
@@ -60,69 +60,36 @@ module _ (part held : List ℕ) (free : HasNoFeed part) (is : held ≡ take 4098
       ∙ piece_from (cut piece).first (cut piece).rest
       ∙ ap (take 4098) (sym (piece_behind part free piece))
 
-module _ (spoken : Spoken) (st : State) where
-  -- nothing is read yet
-  pub stands_start : (a : Option (List ℕ)) → Stands spoken st st [] [] a a
-  stands_start a = record { kept = refl; answered = answered_none spoken st a }
+module _ (spoken : Spoken) (st mid : State) (bytes held : List ℕ) (a b : Option (List ℕ)) (stands : Stands spoken st mid bytes held a b) where
+  pub stands_free : HasNoFeed held
+  stands_free = subst HasNoFeed (sym stands.kept) (take_is_free 4098 (last_piece bytes) (piece_is_free bytes))
 
-  module _ (mid : State) (bytes held : List ℕ) (a b : Option (List ℕ)) (stands : Stands spoken st mid bytes held a b) where
-    pub stands_free : HasNoFeed held
-    stands_free = subst HasNoFeed (sym stands.kept) (take_is_free 4098 (last_piece bytes) (piece_is_free bytes))
+  pub stands_short : length held ≤ 4098
+  stands_short = subst (λ l. length l ≤ 4098) (sym stands.kept) (omega (arith, length-take 4098 (last_piece bytes)))
 
-    pub stands_short : length held ≤ 4098
-    stands_short = subst (λ l. length l ≤ 4098) (sym stands.kept) (omega (arith, length-take 4098 (last_piece bytes)))
+  -- what came of the lines of a piece
+  pub has_piece : (what : What) (piece : List ℕ) (c : Option (List ℕ)) → Has spoken what mid (whole_lines_of (held ++ piece)) b c → Has spoken what st (whole_lines_of (bytes ++ piece)) a c
+  has_piece what piece c has =
+      subst (λ l. Has spoken what st l a c) (sym (lines_of_two bytes piece))
+      (has_behind spoken st mid (whole_lines_of bytes) (whole_lines_of (last_piece bytes ++ piece)) a b c stands.answered what
+      (lines_with (λ l. Has spoken what mid l b c) (λ xs ys same ls h. has_same spoken xs ys same ls mid b c what h)
+      (last_piece bytes) held (piece_is_free bytes) stands.kept piece has))
 
-    -- a piece is answered
-    module _ (piece : List ℕ) (c : Option (List ℕ)) where
-      pub stands_piece : (next : State) (left : List ℕ) → HasAnswered spoken mid (whole_lines_of (held ++ piece)) next b c → left ≡ take 4098 (last_piece (held ++ piece))
-          → Stands spoken st next (bytes ++ piece) left a c
-      stands_piece next left answered is = record {
-        kept = is ∙ piece_with (last_piece bytes) held (piece_is_free bytes) stands.kept piece ∙ ap (take 4098) (sym (piece_of_two bytes piece));
-        answered =
-            subst (λ l. HasAnswered spoken st l next a c) (sym (lines_of_two bytes piece))
-            (answered_behind spoken st mid (whole_lines_of bytes) (whole_lines_of (last_piece bytes ++ piece)) a b c stands.answered next
-            (lines_with (λ l. HasAnswered spoken mid l next b c) (λ xs ys same ls h. answered_same spoken xs ys same ls mid b c next h)
-            (last_piece bytes) held (piece_is_free bytes) stands.kept piece answered));
-      }
+  -- a piece is answered
+  pub stands_piece : (piece : List ℕ) (c : Option (List ℕ)) (next : State) (left : List ℕ) → HasAnswered spoken mid (whole_lines_of (held ++ piece)) next b c → left ≡ take 4098 (last_piece (held ++ piece))
+      → Stands spoken st next (bytes ++ piece) left a c
+  stands_piece piece c next left answered is = record {
+    kept = is ∙ piece_with (last_piece bytes) held (piece_is_free bytes) stands.kept piece ∙ ap (take 4098) (sym (piece_of_two bytes piece));
+    answered = has_piece (Whole next) piece c answered;
+  }
 
-      -- a line of it ends the session
-      pub ended_piece : HasEnded spoken mid (whole_lines_of (held ++ piece)) b c → HasEnded spoken st (whole_lines_of (bytes ++ piece)) a c
-      ended_piece ended =
-          subst (λ l. HasEnded spoken st l a c) (sym (lines_of_two bytes piece))
-          (ended_behind spoken st mid (whole_lines_of bytes) (whole_lines_of (last_piece bytes ++ piece)) a b c stands.answered
-          (lines_with (λ l. HasEnded spoken mid l b c) (λ xs ys same ls h. ended_same spoken xs ys same ls mid b c h)
-          (last_piece bytes) held (piece_is_free bytes) stands.kept piece ended))
+  -- no more comes
+  pub has_end : (what : What) (c : Option (List ℕ)) → Has spoken what mid (last_line held) b c → Has spoken what st (lines_of bytes) a c
+  has_end what c has =
+      subst (λ l. Has spoken what st l a c) (sym (lines_are bytes))
+      (has_behind spoken st mid (whole_lines_of bytes) (last_line (last_piece bytes)) a b c stands.answered what
+      (last_alike (λ l. Has spoken what mid l b c) (λ xs ys same ls h. has_same spoken xs ys same ls mid b c what h) held (last_piece bytes)
+      (ap (take 4098) stands.kept ∙ take_once 4098 (last_piece bytes)) has))
 
-      -- it is answered in part
-      pub begun_piece : (fault : AnswerFault) → HasBegun spoken mid (whole_lines_of (held ++ piece)) fault b c → HasBegun spoken st (whole_lines_of (bytes ++ piece)) fault a c
-      begun_piece fault begun =
-          subst (λ l. HasBegun spoken st l fault a c) (sym (lines_of_two bytes piece))
-          (begun_behind spoken st mid (whole_lines_of bytes) (whole_lines_of (last_piece bytes ++ piece)) a b c stands.answered fault
-          (lines_with (λ l. HasBegun spoken mid l fault b c) (λ xs ys same ls h. begun_same spoken xs ys same ls mid b c fault h)
-          (last_piece bytes) held (piece_is_free bytes) stands.kept piece begun))
-
-    -- no more comes
-    kept_same : take 4098 held ≡ take 4098 (last_piece bytes)
-    kept_same = ap (take 4098) stands.kept ∙ take_once 4098 (last_piece bytes)
-
-    module _ (c : Option (List ℕ)) where
-      pub stands_end : (next : State) → HasAnswered spoken mid (last_line held) next b c → HasAnswered spoken st (lines_of bytes) next a c
-      stands_end next answered =
-          subst (λ l. HasAnswered spoken st l next a c) (sym (lines_are bytes))
-          (answered_behind spoken st mid (whole_lines_of bytes) (last_line (last_piece bytes)) a b c stands.answered next
-          (last_alike (λ l. HasAnswered spoken mid l next b c) (λ xs ys same ls h. answered_same spoken xs ys same ls mid b c next h) held (last_piece bytes) kept_same answered))
-
-      pub ended_end : HasEnded spoken mid (last_line held) b c → HasEnded spoken st (lines_of bytes) a c
-      ended_end ended =
-          subst (λ l. HasEnded spoken st l a c) (sym (lines_are bytes))
-          (ended_behind spoken st mid (whole_lines_of bytes) (last_line (last_piece bytes)) a b c stands.answered
-          (last_alike (λ l. HasEnded spoken mid l b c) (λ xs ys same ls h. ended_same spoken xs ys same ls mid b c h) held (last_piece bytes) kept_same ended))
-
-      pub begun_end : (fault : AnswerFault) → HasBegun spoken mid (last_line held) fault b c → HasBegun spoken st (lines_of bytes) fault a c
-      begun_end fault begun =
-          subst (λ l. HasBegun spoken st l fault a c) (sym (lines_are bytes))
-          (begun_behind spoken st mid (whole_lines_of bytes) (last_line (last_piece bytes)) a b c stands.answered fault
-          (last_alike (λ l. HasBegun spoken mid l fault b c) (λ xs ys same ls h. begun_same spoken xs ys same ls mid b c fault h) held (last_piece bytes) kept_same begun))
-
-    pub begun_so_far : (fault : AnswerFault) → HasBegun spoken st (whole_lines_of bytes) fault a b
-    begun_so_far fault = begun_of_answered spoken st mid (whole_lines_of bytes) fault a b stands.answered
+  pub begun_so_far : (fault : AnswerFault) → HasBegun spoken st (whole_lines_of bytes) fault a b
+  begun_so_far fault = begun_of_answered spoken st mid (whole_lines_of bytes) fault a b stands.answered

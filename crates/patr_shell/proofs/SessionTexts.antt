@@ -1,13 +1,13 @@
 -- How what was answered makes up the text of a session over a whole input.
-use Rattle.std.proofs.Common.{◌≡◌, ◌<◌, ◌≤◌, ◌-◌, ◌+◌, ℕ, List, [], ◌∷◌, ◌++◌, Option, None, Some, IfSome, Bool, true, false, length, take, drop, leb, refl, sym, ◌∙◌, ap, subst, append_assoc, append-nil, arith, length-append, take-append-drop, inr}
-use Rattle.patr_shell.proofs.Names.{nat_tests, take_all, take_at, length-take-le, Appends, Consumes, IsAtEnd, Appends-trans, solved, lines_with_commands, Numbering, AgreesWith, Grounds, Replied, whole_lines_of, lines_of, built, Answered, SessionRepliesBegin, least_texts, replies_begin, session_one, Spoken, grounds, state_seen, AppendsFront, HasAnswered, HasEnded, HasBegun, HasWrittenSession, HasBegunSession, too_long_line, last_piece, last_line, AnswerFault}
+use Rattle.std.proofs.Common.{◌≡◌, ◌<◌, ◌≤◌, ◌-◌, ◌+◌, ℕ, List, [], ◌++◌, Option, None, Some, IfSome, Bool, true, false, length, take, drop, leb, refl, sym, ◌∙◌, ap, subst, append_assoc, append-nil, arith, length-append, take-append-drop}
+use Rattle.patr_shell.proofs.Names.{nat_tests, take_all, take_at, length-take-le, Appends, Consumes, IsAtEnd, Appends-trans, solved, lines_with_commands, Numbering, AgreesWith, Grounds, Replied, whole_lines_of, lines_of, built, SessionRepliesBegin, least_texts, replies_begin, session_one, Spoken, grounds, state_seen, AppendsFront, HasAnswered, HasEnded, HasBegun, HasWrittenSession, HasBegunSession, too_long_line, last_piece, last_line, AnswerFault}
 use Rattle.patr_model.specs.Session as session
 use Rattle.patr_model.specs.Run.{Ending, Done, InputTooLong, IsSession, ended, quit, too_long}
 use Rattle.patr_shell.specs.declared.state.State.{State}
 use Rattle.patr_shell.proofs.Cuts.{lines_of_two, lines_are}
 use Rattle.patr_shell.proofs.Ends.{take_two}
 use Rattle.patr_shell.proofs.Fronts.{front_longer, front_behind, whole_front, reached_front}
-use Rattle.patr_shell.proofs.Replying.{ended_longer}
+use Rattle.patr_shell.proofs.Replying.{ended_longer, replied}
 
 -- ---- what is told of an input
 
@@ -75,11 +75,6 @@ module _ (spoken : Spoken) (st : State) where
     abbrev Texts : session.State → List (List ℕ) → List ℕ → Bool → Type 0
     Texts from ls text stops = Replied solved lines_with_commands (grounds N spoken) from ls text stops
 
-    -- what was answered is a text of the lines
-    replied : (from end : session.State) (ls : List (List ℕ)) (x : List ℕ) → Answered solved lines_with_commands (grounds N spoken) from ls x end → Texts from ls x false
-    replied from end [] x h = (h.0, refl)
-    replied from end (l ∷ ls) x h = inr (h.0, h.1, h.2, h.3, h.4, replied h.2 end ls h.3 h.5, h.6)
-
     -- the replies to the first lines begin each text
     begun_text : (ls rest : List (List ℕ)) (text : List ℕ) (stops : Bool) (fault : AnswerFault) (a b : Option (List ℕ)) → HasBegun spoken st ls fault a b → Texts (state_seen st) (ls ++ rest) text stops → AppendsFront a b text
     begun_text ls rest text stops fault a b h r =
@@ -114,7 +109,7 @@ module _ (spoken : Spoken) (st : State) where
 
     -- all lines within the limit are answered, and more comes
     past_text : (end : State) (input : List ℕ) (a b : Option (List ℕ)) → most < length input → (h : HasAnswered spoken st (whole_lines_of (take most input)) end a b) → IsText input (h.text ++ too_long_line) InputTooLong
-    past_text end input a b long h = too_long long h.text (replied (state_seen st) (state_seen end) (whole_lines_of (take most input)) h.text (h.replies N agrees)) refl refl
+    past_text end input a b long h = too_long long h.text (replied (grounds N spoken) (state_seen st) (state_seen end) (whole_lines_of (take most input)) h.text (h.replies N agrees)) refl refl
 
   -- ---- what a session has written
 
@@ -137,7 +132,7 @@ module _ (spoken : Spoken) (st : State) where
   pub written_whole : (end : State) (input : List ℕ) (a b : Option (List ℕ)) → length input ≤ most → HasAnswered spoken st (lines_of input) end a b → HasWrittenSession spoken st input Done a b
   written_whole end input a b short h = record {
     text = h.text;
-    is_session = λ N agrees. ended short false (replied N agrees (state_seen st) (state_seen end) (lines_of input) h.text (h.replies N agrees)) refl;
+    is_session = λ N agrees. ended short false (replied (grounds N spoken) (state_seen st) (state_seen end) (lines_of input) h.text (h.replies N agrees)) refl;
     appended = h.sent;
   }
 

@@ -6,7 +6,7 @@ use Rattle.std.specs.Prelude.{◌≡◌, ◌⊎◌, ◌<◌, ◌^◌, ℕ, lengt
 use Rattle.std.specs.String.{string_bytes}
 use Rattle.std.specs.Io.KnownBytes.{Appends, Consumes}
 use Rattle.patr_model.specs.Solved.{solved}
-use Rattle.patr_model.specs.Session.{Numbering, AgreesWith, IsQuit, IsWordsReply, IsLineReply, IsCommandReply, Replied, line, cut_at, whole_lines_of, without_cr, without_empty}
+use Rattle.patr_model.specs.Session.{Numbering, AgreesWith, IsQuit, IsWordsReply, IsLineReply, IsCommandReply, Replied, begins_with_colon, line, cut_at, whole_lines_of, without_cr, without_empty}
 use Rattle.patr_model.specs.Run.{Ending, IsSession}
 use Rattle.patr_model.specs.Openings.{Answered}
 use Rattle.patr_model.specs.Notations.{lines_with_commands}
@@ -28,6 +28,10 @@ use Rattle.patr_shell.specs.declared.session.Next.TheVariants.{GoesOn, Ends}
 abbrev pub IsAnswerToCommand : State → Command → Option Reply → Type 0
 IsAnswerToCommand st c None = c ≡ Quit
 IsAnswerToCommand st c (Some r) = (c ≡ Quit → ⊥) × ((spoken : Spoken) (N : Numbering) → IsCommandReply solved lines_with_commands (grounds N spoken) (state_seen st) (command_seen c) (string_bytes r.text) (state_seen r.state))
+
+-- there are words, and the first begins with a colon or not
+abbrev pub HasFirstWord : List (List ℕ) → Bool → Type 0
+HasFirstWord words colon = (0 < length words) × (begins_with_colon words ≡ colon)
 
 -- the words of a line end the session
 abbrev pub AreQuit : List (List ℕ) → Type 0

@@ -1,10 +1,10 @@
 //! What a line comes to: a reply and the state behind it, or the end of the session.
-ghost use Rattle.std.specs.Prelude.{◌≡◌, ℕ, ◌<◌, List, length, map, IfOk, IfSome, string_bytes};
+ghost use Rattle.std.specs.Prelude.{◌≡◌, ℕ, ◌<◌, List, [], length, map, IfOk, IfSome, IfNone, string_bytes};
 ghost use Rattle.patr_model.specs.Solved.{solved};
 ghost use Rattle.patr_model.specs.Notations.{lines_with_commands};
 ghost use Rattle.patr_model.specs.Session.{Numbering, AgreesWith, IsSentenceReply, words_of};
 ghost use Rattle.patr_shell.specs.Spoken.{grounds, state_seen, HasLimit, MayBeSet};
-ghost use Rattle.patr_shell.specs.Answering.{IsAnswer, IsAnswerToCommand, IsAnswerToWords};
+ghost use Rattle.patr_shell.specs.Answering.{HasFirstWord, IsAnswer, IsAnswerToCommand, IsAnswerToWords};
 
 use crate::command::{Command, command_of, on_off};
 use crate::state::State;
@@ -86,67 +86,61 @@ fn command_answer(alloc: Global, state: State, command: Command) -> Result<Optio
     ensures answer { IfOk result (λ answer. IsAnswerToCommand state command answer) }
     ensures limit { IfOk result (λ answer. IfSome answer (λ r. HasLimit r.state)) }
 {
-    let State {
-        limit,
-        features,
-        count,
-    } = state;
     match command {
         Command::Limit(limit) => Ok(Some(Reply {
             text: format!(in alloc; "limit {limit}\n")?,
-            state: State {
-                limit,
-                features,
-                count,
-            },
+            state: State { limit, ..state },
         })),
         Command::Features(features) => Ok(Some(Reply {
             text: format!(in alloc; "features {}\n", on_off(features))?,
-            state: State {
-                limit,
-                features,
-                count,
-            },
+            state: State { features, ..state },
         })),
         Command::Count(count) => Ok(Some(Reply {
             text: format!(in alloc; "count {}\n", on_off(count))?,
-            state: State {
-                limit,
-                features,
-                count,
-            },
+            state: State { count, ..state },
         })),
         Command::Quit => Ok(None),
     }
 }
 
-/// What a line of text comes to; none where it ends the session.
-fn text_answer<G: Gate>(
+/// Whether the first word begins with a colon; none where there is no word.
+fn begins_with_colon(words: &[&str]) -> Option<bool>
+    ensures none { IfNone result (map (λ w. w.now) words.now ≡ []) }
+    ensures some { IfSome result (λ colon. HasFirstWord (map (λ w. w.now) words.now) colon) }
+{
+    match words {
+        [] => None,
+        [first, ..] => Some(first.starts_with(':')),
+    }
+}
+
+/// What the words of a line come to; none where they end the session.
+fn words_answer<G: Gate>(
     alloc: Global,
     language: &Language,
     state: State,
-    line: &str,
+    words: &[&str],
     gate: &G,
     scratch: &mut Scratch,
 ) -> Result<Option<Reply>, Memory>
     requires limit { HasLimit state }
-    ensures answer { IfOk result (λ answer. IsAnswerToWords language.now state (words_of line.now) answer) }
+    ensures answer { IfOk result (λ answer.
+        IsAnswerToWords language.now state (map (λ w. w.now) words.now) answer) }
     ensures limit { IfOk result (λ answer. IfSome answer (λ r. HasLimit r.state)) }
 {
-    let words = words_of(alloc, line)?;
-    if words.is_empty() {
+    let Some(colon) = begins_with_colon(words) else {
         let text = String::new(alloc);
         return Ok(Some(Reply { text, state }));
-    }
-    if !words[0].starts_with(':') {
-        let sentence = Sentence { words: &words };
+    };
+    if !colon {
+        let sentence = Sentence { words };
         let blank = Blank::new(1);
         let text = sentence_reply::<Brand, G>(
             alloc, language, state, sentence, gate, scratch, blank,
         )?;
         return Ok(Some(Reply { text, state }));
     }
-    match command_of(&words) {
+    match command_of(words) {
         Some(command) => command_answer(alloc, state, command),
         None => {
             let text = String::from_str(alloc, "error: bad command\n")?;
@@ -178,5 +172,6 @@ pub fn line_answer<G: Gate>(
         let text = String::from_str(alloc, "error: line is not UTF-8\n")?;
         return Ok(Some(Reply { text, state }));
     };
-    text_answer(alloc, language, state, text, gate, scratch)
+    let words = words_of(alloc, text)?;
+    words_answer(alloc, language, state, &words, gate, scratch)
 }

@@ -44,7 +44,8 @@ fn command_of_one(name: &str) -> Option<Command>
 
 /// The command of two words.
 fn command_of_two(name: &str, value: &str) -> Option<Command>
-    ensures command { option_map command_seen result ≡ lines_with_commands.command (name.now ∷ value.now ∷ []) }
+    ensures command { option_map command_seen result
+        ≡ lines_with_commands.command (name.now ∷ value.now ∷ []) }
     ensures limit { IfSome result MayBeSet }
 {
     match name {
@@ -57,7 +58,8 @@ fn command_of_two(name: &str, value: &str) -> Option<Command>
 
 /// The command that the words of a line spell, where they spell one.
 pub fn command_of(words: &[&str]) -> Option<Command>
-    ensures command { option_map command_seen result ≡ lines_with_commands.command (map (λ w. w.now) words.now) }
+    ensures command { option_map command_seen result
+        ≡ lines_with_commands.command (map (λ w. w.now) words.now) }
     ensures limit { IfSome result MayBeSet }
 {
     match words {

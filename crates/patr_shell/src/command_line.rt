@@ -61,7 +61,8 @@ struct Said<'a> {
 impl<'a> Said<'a> {
     /// Puts a name behind the others.
     fn add_name(&mut self, name: &'a str) -> Result<(), Memory>
-        ensures { IfOk result (λ _. said_seen self.new ≡ said_then (said_seen self.old) (only (name.now ∷ []))) }
+        ensures { IfOk result (λ _.
+            said_seen self.new ≡ said_then (said_seen self.old) (only (name.now ∷ []))) }
     {
         self.names.push(name)?;
         Ok(())
@@ -69,7 +70,8 @@ impl<'a> Said<'a> {
 
     /// Puts an option's value behind the others.
     fn add_value(&mut self, flag: Flag, value: &'a str) -> Result<(), Memory>
-        ensures { IfOk result (λ _. said_seen self.new ≡ said_then (said_seen self.old) (with_value (flag_seen flag) value.now (only []))) }
+        ensures { IfOk result (λ _. said_seen self.new
+            ≡ said_then (said_seen self.old) (with_value (flag_seen flag) value.now (only []))) }
     {
         match flag {
             Flag::Workers => self.workers.push(value)?,
@@ -80,7 +82,8 @@ impl<'a> Said<'a> {
 
     /// Takes a word, and answers how the word behind it is taken; none where the word is of no form.
     fn take(&mut self, word: &'a str, next: NextWord) -> Result<Option<NextWord>, Memory>
-        ensures { IfOk result (λ after. (ws : List (List ℕ)) → said_in_all self.new after ws ≡ said_in_all self.old (Some next) (word.now ∷ ws)) }
+        ensures { IfOk result (λ after. (ws : List (List ℕ)) → said_in_all self.new after ws
+            ≡ said_in_all self.old (Some next) (word.now ∷ ws)) }
     {
         match next {
             NextWord::Any => self.take_by_kind(word),
@@ -97,7 +100,8 @@ impl<'a> Said<'a> {
 
     /// Takes a word by its kind, and answers as `take` does.
     fn take_by_kind(&mut self, word: &'a str) -> Result<Option<NextWord>, Memory>
-        ensures { IfOk result (λ after. (ws : List (List ℕ)) → said_in_all self.new after ws ≡ option_map (said_then (said_seen self.old)) (said None (word.now ∷ ws))) }
+        ensures { IfOk result (λ after. (ws : List (List ℕ)) → said_in_all self.new after ws
+            ≡ option_map (said_then (said_seen self.old)) (said None (word.now ∷ ws))) }
     {
         match word_kind(word) {
             WordKind::EndOfOptions => Ok(Some(NextWord::Name)),
@@ -128,8 +132,10 @@ impl<'a> Said<'a> {
 /// What the words of the command line say; none where they are not of the form. It fails for want of
 /// memory alone. The number of workers is read, and one worker runs.
 pub fn read_setup(alloc: Global, words: &[String]) -> Result<Option<Setup<'_>>, Memory>
-    ensures words { IfOk result (λ found. setup_seen found ≡ command_words (map string_bytes words.now)) }
-    ensures limit { IfOk result (λ found. IfSome found (λ setup. (1 ≤ setup.limit) × (setup.limit ≤ 200000))) }
+    ensures words { IfOk result (λ found.
+        setup_seen found ≡ command_words (map string_bytes words.now)) }
+    ensures limit { IfOk result (λ found.
+        IfSome found (λ setup. (1 ≤ setup.limit) × (setup.limit ≤ 200000))) }
 {
     match read_words(alloc, words)? {
         Some(said) => Ok(said.setup()),
@@ -139,7 +145,8 @@ pub fn read_setup(alloc: Global, words: &[String]) -> Result<Option<Setup<'_>>, 
 
 /// What the words say; none where a value is missing or a word is of no form.
 fn read_words(alloc: Global, words: &[String]) -> Result<Option<Said<'_>>, Memory>
-    ensures { IfOk result (λ found. option_map said_seen found ≡ said None (map string_bytes words.now)) }
+    ensures { IfOk result (λ found.
+        option_map said_seen found ≡ said None (map string_bytes words.now)) }
 {
     let mut said = Said {
         names: Vec::new(alloc),

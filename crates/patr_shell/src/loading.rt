@@ -18,19 +18,23 @@ const MAX_GRAMMAR: usize = 1 << 22;
 
 const MAX_LEXICON: usize = 1 << 24;
 
-/// The bytes of a file, or `None` where it has more than `most`. Fails where the shelf does or has no such file, and for want of memory.
+/// The bytes of a file, or `None` where it has more than `most`. Fails where the shelf does or has no such file, and for
+/// want of memory.
 fn load<F: Shelf>(
     alloc: Global,
     shelf: &mut F,
     name: &str,
     most: usize,
 ) -> Result<Option<Vec<u8>>, OpeningFault>
-    ensures some { IfOk result (λ loaded. IfSome loaded (λ bytes. HasFile (F.files shelf.old) name.now bytes.items × (vec_len bytes ≤ most))) }
-    ensures none { IfOk result (λ loaded. IfNone loaded (HasLongFile (F.files shelf.old) name.now most)) }
+    ensures some { IfOk result (λ loaded. IfSome loaded (λ bytes.
+        HasFile (F.files shelf.old) name.now bytes.items × (vec_len bytes ≤ most))) }
+    ensures none { IfOk result (λ loaded.
+        IfNone loaded (HasLongFile (F.files shelf.old) name.now most)) }
     ensures fault { IfErr result IsLoadFault }
     ensures files { F.files shelf.new ≡ F.files shelf.old }
-    ensures read { IfErr result (λ fault. fault ≡ OpeningFault.Read →
-        CannotLoad (F.files shelf.old) (F.faults shelf.old) (F.faults shelf.new) (F.failed_name shelf.new) name.now) }
+    ensures read { IfErr result (λ fault. fault ≡ OpeningFault.Read
+        → CannotLoad (F.files shelf.old) (F.faults shelf.old) (F.faults shelf.new)
+        (F.failed_name shelf.new) name.now) }
     ensures well { OnFalse (is_read_fault result) (F.faults shelf.new ≡ F.faults shelf.old) }
 {
     match shelf.load(alloc, name, most) {
@@ -49,13 +53,15 @@ pub fn load_grammar<F: Shelf>(
     symbols: &mut Symbols,
 ) -> Result<Grammar, OpeningFault>
     requires { length symbols.old + 4194304 < 2 ^ 32 - 1 }
-    ensures grammar { IfOk result (λ grammar. ReadsGrammar (F.files shelf.old) name.now symbols.new grammar) }
+    ensures grammar { IfOk result (λ grammar.
+        ReadsGrammar (F.files shelf.old) name.now symbols.new grammar) }
     ensures fault { IfErr result (λ fault. IsGrammarFault (F.files shelf.old) name.now fault) }
     ensures extends { Extends symbols.old symbols.new }
     ensures growth { length symbols.new ≤ length symbols.old + 4194304 }
     ensures files { F.files shelf.new ≡ F.files shelf.old }
-    ensures read { IfErr result (λ fault. fault ≡ OpeningFault.Read →
-        CannotLoad (F.files shelf.old) (F.faults shelf.old) (F.faults shelf.new) (F.failed_name shelf.new) name.now) }
+    ensures read { IfErr result (λ fault. fault ≡ OpeningFault.Read
+        → CannotLoad (F.files shelf.old) (F.faults shelf.old) (F.faults shelf.new)
+        (F.failed_name shelf.new) name.now) }
     ensures well { OnFalse (is_read_fault result) (F.faults shelf.new ≡ F.faults shelf.old) }
 {
     let Some(bytes) = load(alloc, shelf, name, MAX_GRAMMAR)? else {
@@ -78,11 +84,13 @@ pub fn load_lexicon<F: Shelf>(
     symbols: &mut Symbols,
 ) -> Result<Lexicon, OpeningFault>
     requires { length symbols.old + 16777216 < 2 ^ 32 - 1 }
-    ensures lexicon { IfOk result (λ lexicon. ReadsLexicon (F.files shelf.old) name.now symbols.new lexicon) }
+    ensures lexicon { IfOk result (λ lexicon.
+        ReadsLexicon (F.files shelf.old) name.now symbols.new lexicon) }
     ensures fault { IfErr result (λ fault. IsLexiconFault (F.files shelf.old) name.now fault) }
     ensures extends { Extends symbols.old symbols.new }
-    ensures read { IfErr result (λ fault. fault ≡ OpeningFault.Read →
-        CannotLoad (F.files shelf.old) (F.faults shelf.old) (F.faults shelf.new) (F.failed_name shelf.new) name.now) }
+    ensures read { IfErr result (λ fault. fault ≡ OpeningFault.Read
+        → CannotLoad (F.files shelf.old) (F.faults shelf.old) (F.faults shelf.new)
+        (F.failed_name shelf.new) name.now) }
     ensures well { OnFalse (is_read_fault result) (F.faults shelf.new ≡ F.faults shelf.old) }
 {
     let Some(bytes) = load(alloc, shelf, name, MAX_LEXICON)? else {

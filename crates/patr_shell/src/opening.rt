@@ -62,13 +62,18 @@ pub fn open<F: Shelf>(
     words: &[String],
     shelf: &mut F,
 ) -> Result<Opened, OpeningFault>
-    ensures opened { IfOk result (λ o. IfSome (F.files shelf.old) (λ files. IsOpened (map string_bytes words.now) files o.language o.state)) }
-    ensures found { IfOk result (λ _. HaveSession (map string_bytes words.now) (F.files shelf.old)) }
+    ensures opened { IfOk result (λ o. IfSome (F.files shelf.old) (λ files.
+        IsOpened (map string_bytes words.now) files o.language o.state)) }
+    ensures found { IfOk result (λ _.
+        HaveSession (map string_bytes words.now) (F.files shelf.old)) }
     ensures table { IfOk result (λ o. IsTable o.language.texts) }
     ensures limit { IfOk result (λ o. HasLimit o.state) }
-    ensures fault { IfErr result (λ fault. IsFaultOf (map string_bytes words.now) (F.files shelf.old) fault) }
-    ensures read { IfErr result (λ fault. fault ≡ OpeningFault.Read → (name : List ℕ) × LooksAt (map string_bytes words.now) (F.files shelf.old) name
-        × CannotLoad (F.files shelf.old) (F.faults shelf.old) (F.faults shelf.new) (F.failed_name shelf.new) name) }
+    ensures fault { IfErr result (λ fault.
+        IsFaultOf (map string_bytes words.now) (F.files shelf.old) fault) }
+    ensures read { IfErr result (λ fault. fault ≡ OpeningFault.Read → (name : List ℕ)
+        × LooksAt (map string_bytes words.now) (F.files shelf.old) name
+        × CannotLoad (F.files shelf.old) (F.faults shelf.old) (F.faults shelf.new)
+        (F.failed_name shelf.new) name) }
     ensures well { OnFalse (is_read_fault result) (F.faults shelf.new ≡ F.faults shelf.old) }
 {
     let Some(setup) = read_setup(alloc, words)? else {

@@ -14,7 +14,7 @@ use crate::{GrammarTrouble, LexiconTrouble, Memory, Status};
 use patr_expand::ExpandCause;
 use patr_grammar::{GrammarCause, What, expected_text};
 use patr_lexicon::LexiconCause;
-use std::alloc::{AllocError, AllocFailed, Global};
+use std::alloc::{AllocError, Global};
 
 const USAGE: &str = "usage: patr GRAMMAR LEXICON [--workers N] [--limit N]\n";
 
@@ -59,15 +59,26 @@ impl From<AllocError> for OpeningFault {
     }
 }
 
-impl<T: Drop> From<AllocFailed<T>> for OpeningFault {
-    ghost from_gives = { λ _ fault. fault ≡ OutOfMemory };
-
-    fn from(_: AllocFailed<T>) -> Self {
-        OpeningFault::Memory
-    }
+/// The line on a place of this file, `grammar` or `lexicon`.
+fn line_at_place(
+    alloc: Global,
+    file: &'static str,
+    line: u32,
+    column: u32,
+    what: &str,
+) -> Result<String, Memory>
+    ensures { IfOk result (λ text. string_bytes text
+        ≡ at_place file.now (record { line = line; column = column }) what.now) }
+{
+    let mut text = format!(in alloc; "error: {file} {line}")?;
+    let column = format!(in alloc; ":{column}: ")?;
+    text.push_str(column.as_str())?;
+    text.push_str(what)?;
+    text.push('\n')?;
+    Ok(text)
 }
 
-/// The line that refuses the text of this file, `grammar` or `lexicon`, where something else is expected.
+/// The line on a place of this file where something else is expected.
 fn expected_line(
     alloc: Global,
     file: &'static str,
@@ -75,14 +86,11 @@ fn expected_line(
     column: u32,
     what: &What,
 ) -> Result<String, Memory>
-    ensures { IfOk result (λ text. string_bytes text ≡ at_place file.now (record { line = line; column = column }) (codes "expected " ++ what_text what.now)) }
+    ensures { IfOk result (λ text. string_bytes text ≡ at_place file.now
+        (record { line = line; column = column }) (codes "expected " ++ what_text what.now)) }
 {
-    let mut text = format!(in alloc; "error: {file} {line}")?;
-    let column = format!(in alloc; ":{column}: expected ")?;
-    text.push_str(column.as_str())?;
-    text.push_str(expected_text(what))?;
-    text.push('\n')?;
-    Ok(text)
+    let expected = format!(in alloc; "expected {}", expected_text(what))?;
+    line_at_place(alloc, file, line, column, expected.as_str())
 }
 
 /// The line that refuses a grammar's text.
@@ -94,53 +102,50 @@ fn grammar_line(alloc: Global, cause: GrammarCause) -> Result<String, Memory>
             format!(in alloc; "error: grammar: not UTF-8 at byte {at}\n")
         }
         GrammarCause::BadToken { line, column } => {
-            format!(in alloc; "error: grammar {line}:{column}: bad character\n")
+            line_at_place(alloc, "grammar", line, column, "bad character")
         }
         GrammarCause::Expected { line, column, what } => {
             expected_line(alloc, "grammar", line, column, &what)
         }
         GrammarCause::NotAConstituent { line, column } => {
-            format!(in alloc; "error: grammar {line}:{column}: not a constituent\n")
+            line_at_place(alloc, "grammar", line, column, "not a constituent")
         }
         GrammarCause::PathTooLong { line, column } => {
-            format!(in alloc; "error: grammar {line}:{column}: path too long\n")
+            line_at_place(alloc, "grammar", line, column, "path too long")
         }
         GrammarCause::TooManySymbols { line, column } => {
-            format!(in alloc; "error: grammar {line}:{column}: too many symbols\n")
+            line_at_place(alloc, "grammar", line, column, "too many symbols")
         }
         GrammarCause::NoRules => String::from_str(alloc, "error: grammar: no rules\n"),
         GrammarCause::LaterForm { line, column } => {
-            format!(in alloc; "error: grammar {line}:{column}: not built yet\n")
+            line_at_place(alloc, "grammar", line, column, "not built yet")
         }
     }
 }
 
 /// The line that refuses a lexicon's text.
 fn lexicon_line(alloc: Global, cause: LexiconCause) -> Result<String, Memory>
-    ensures { IfOk result (λ text. string_bytes text ≡ lexicon_fault_line (lexicon_fault_of cause)) }
+    ensures { IfOk result (λ text.
+        string_bytes text ≡ lexicon_fault_line (lexicon_fault_of cause)) }
 {
     match cause {
         LexiconCause::NotUtf8 { at } => {
             format!(in alloc; "error: lexicon: not UTF-8 at byte {at}\n")
         }
         LexiconCause::BadToken { line, column } => {
-            format!(in alloc; "error: lexicon {line}:{column}: bad character\n")
+            line_at_place(alloc, "lexicon", line, column, "bad character")
         }
-        LexiconCause::NoWord { line } => { format!(in alloc; "error: lexicon {line}: no word\n") }
-        LexiconCause::SeveralWords { line } => {
-            format!(in alloc; "error: lexicon {line}: several words\n")
-        }
-        LexiconCause::NoCategory { line } => {
-            format!(in alloc; "error: lexicon {line}: no category\n")
-        }
+        LexiconCause::NoWord { line } => line_at(alloc, "lexicon", line, "no word"),
+        LexiconCause::SeveralWords { line } => line_at(alloc, "lexicon", line, "several words"),
+        LexiconCause::NoCategory { line } => line_at(alloc, "lexicon", line, "no category"),
         LexiconCause::Expected { line, column, what } => {
             expected_line(alloc, "lexicon", line, column, &what)
         }
         LexiconCause::PathTooLong { line, column } => {
-            format!(in alloc; "error: lexicon {line}:{column}: path too long\n")
+            line_at_place(alloc, "lexicon", line, column, "path too long")
         }
         LexiconCause::LaterForm { line, column } => {
-            format!(in alloc; "error: lexicon {line}:{column}: not built yet\n")
+            line_at_place(alloc, "lexicon", line, column, "not built yet")
         }
     }
 }
@@ -163,7 +168,8 @@ fn equations_line(
     line: u32,
     count: u64,
 ) -> Result<String, Memory>
-    ensures { IfOk result (λ text. string_bytes text ≡ size_fault_line file.now (TooManyEquations line count)) }
+    ensures { IfOk result (λ text.
+        string_bytes text ≡ size_fault_line file.now (TooManyEquations line count)) }
 {
     let what = format!(in alloc; "more than 1024 equations ({count})")?;
     line_at(alloc, file, line, what.as_str())
@@ -171,7 +177,8 @@ fn equations_line(
 
 /// The line that refuses a rule or an entry of this file that is too large.
 fn expand_line(alloc: Global, file: &'static str, cause: ExpandCause) -> Result<String, Memory>
-    ensures { IfOk result (λ text. string_bytes text ≡ size_fault_line file.now (cause_seen cause)) }
+    ensures { IfOk result (λ text.
+        string_bytes text ≡ size_fault_line file.now (cause_seen cause)) }
 {
     match cause {
         ExpandCause::TooManyEquations { line, count } => equations_line(alloc, file, line, count),

@@ -16,7 +16,8 @@ use std::thread::Threads;
 
 /// Writes the line of a refusal, and answers how the run ends.
 fn refuse<K: Sink>(alloc: Global, output: &mut K, refusal: Refusal) -> Status
-    ensures front { AppendsFront (K.written output.old) (K.written output.new) (refusal_line refusal) }
+    ensures front { AppendsFront (K.written output.old) (K.written output.new)
+        (refusal_line refusal) }
     ensures status { IsEndOf refusal result (K.written output.old) (K.written output.new) }
     ensures cause { HasCause (K.faults output.old) (K.faults output.new) (ended_by_write result) }
     ensures flushed { PassesOn (ended_by_write result) (K.written output.old) (K.written output.new)

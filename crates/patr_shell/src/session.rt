@@ -16,15 +16,17 @@ use crate::state::State;
 use crate::{Gate, Language, Memory, Status};
 use patr_io::{Failed, Sink, Source};
 use patr_scratch::Scratch;
-use std::alloc::{AllocError, AllocFailed, Global};
+use std::alloc::{AllocError, Global};
 
 const LINE_FEED: u8 = b'\n';
 
 /// So many bytes of a line are kept. A line of as many is refused, with a CR at its end too, whatever follows.
 const KEPT: usize = 4098;
 
-const PIECE: usize = 4096;
+/// How many bytes are read at once.
+const PIECE: usize = 1 << 16;
 
+/// The most bytes that an input may have.
 const MAX_INPUT: usize = 1 << 24;
 
 const INPUT_TOO_LONG: &[u8] = b"error: input longer than 16777216 bytes\n";
@@ -55,14 +57,6 @@ impl From<AllocError> for AnswerFault {
     ghost from_gives = { λ _ fault. fault ≡ OutOfMemory };
 
     fn from(_: AllocError) -> Self {
-        AnswerFault::Memory
-    }
-}
-
-impl<T: Drop> From<AllocFailed<T>> for AnswerFault {
-    ghost from_gives = { λ _ fault. fault ≡ OutOfMemory };
-
-    fn from(_: AllocFailed<T>) -> Self {
         AnswerFault::Memory
     }
 }
@@ -249,7 +243,8 @@ pub fn run_session<S: Source, K: Sink, G: Gate>(
     ensures flushed { PassesOn (ended_by_write result) (K.written sink.old) (K.written sink.new)
         (K.flushed sink.old) (K.flushed sink.new) }
     ensures status { IsSessionStatus result }
-    ensures source_cause { HasCause (S.faults source.old) (S.faults source.new) (ended_by_read result) }
+    ensures source_cause { HasCause (S.faults source.old) (S.faults source.new)
+        (ended_by_read result) }
     ensures sink_cause { HasCause (K.faults sink.old) (K.faults sink.new) (ended_by_write result) }
 {
     let mut state = first;

@@ -1,25 +1,15 @@
-use Rattle.std.proofs.Common.{◌+◌, [], ℕ, List, Some, map, drop, string_bytes, sym, ap, ◌∙◌}
+use Rattle.std.proofs.Common.{[], Some, string_bytes, sym, ap, ◌∙◌}
 use Rattle.patr_shell.specs.Words.{said_in_all}
-use Rattle.patr_shell.proofs.CommandLine.{ends, ends_without_value, words_left, no_words_left}
+use Rattle.patr_shell.proofs.CommandLine.{ends, ends_without_value, takes, no_words_left}
 use Rattle.patr_shell.proofs.command_line.read_words.Goals as goal
 
 pub returns-in-None : goal.returns-in-None
 returns-in-None c =
-    let all : List (List ℕ) = map string_bytes c.args.words.now in
-    let i = c.loop-word.word-index in
-    ap (λ after. said_in_all c.take.new.self after (drop (i + 1) all)) (sym c.in-None.is)
-    ∙ (c.in_ok-after.ensures (drop (i + 1) all)
-    ∙ (ap (said_in_all c.loop-word.said (Some c.loop-word.next)) (sym (words_left string_bytes c.args.words.now i c.word-item.result c.as_str.result.now c.loop-word-test.true c.word-item.is c.as_str.ensures.value))
-    ∙ c.loop-word.invariant))
+    takes string_bytes c.args.words.now _ _ _ c.loop-word-test.true c.word-item.is c.as_str.ensures.value c.loop-word.said c.take.new.self c.loop-word.next _ _ _ c.in-None.is c.in_ok-after.ensures c.loop-word.invariant
 
 pub loop-word-preserved : goal.loop-word-preserved
 loop-word-preserved c =
-    let all : List (List ℕ) = map string_bytes c.args.words.now in
-    let i = c.loop-word.word-index in
-    ap (λ after. said_in_all c.take.new.self after (drop (i + 1) all)) (sym c.in-Some.is)
-    ∙ (c.in_ok-after.ensures (drop (i + 1) all)
-    ∙ (ap (said_in_all c.loop-word.said (Some c.loop-word.next)) (sym (words_left string_bytes c.args.words.now i c.word-item.result c.as_str.result.now c.loop-word-test.true c.word-item.is c.as_str.ensures.value))
-    ∙ c.loop-word.invariant))
+    takes string_bytes c.args.words.now _ _ _ c.loop-word-test.true c.word-item.is c.as_str.ensures.value c.loop-word.said c.take.new.self c.loop-word.next _ _ _ c.in-Some.is c.in_ok-after.ensures c.loop-word.invariant
 
 pub returns-in-Value : goal.returns-in-Value
 returns-in-Value c =
