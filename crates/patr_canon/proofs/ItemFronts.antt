@@ -243,14 +243,14 @@ module _ (table : List (List ℕ)) (first : Bool) (bs : List ℕ) where
   module _ (l : Look) (d : ℕ) (x : Event) (left : List Event) (f : Follows (x ∷ left) (expect_in first) d) (e : text_of l (x ∷ left) ≡ bs) where
     pub node_closing : (rest : List ℕ) → Some rest ≡ skip (93 ∷ []) bs → (x ≡ Closes) × (text_of l left ≡ rest)
     node_closing rest h = elim (in_node first x left d f) [
-      inl q ↦ (q, sym (some_inj rest (text_of l left) (h ∙ skipped l x Closes left q e (93 ∷ []) (text_of l left) refl)))
+      | inl q ↦ (q, sym (some_inj rest (text_of l left) (h ∙ skipped l x Closes left q e (93 ∷ []) (text_of l left) refl)))
       | inr q ↦ absurd (no_closing first (l.text q.0) (text_of l left) rest bs (ap (λ y. text_of l (y ∷ left)) (sym q.1) ∙ e) h)
     ]
 
     -- what is not closed goes on with an arc behind its separator
     node_goes_on : None ≡ skip (93 ∷ []) bs → (a : ℕ) × (x ≡ OfArc first a) × (skip (separator first) bs ≡ Some (printed (l.text a) ++ 58 ∷ 32 ∷ text_of l left))
     node_goes_on h = elim (in_node first x left d f) [
-      inl q ↦ absurd (none_not (text_of l left) (h ∙ skipped l x Closes left q e (93 ∷ []) (text_of l left) refl))
+      | inl q ↦ absurd (none_not (text_of l left) (h ∙ skipped l x Closes left q e (93 ∷ []) (text_of l left) refl))
       | inr q ↦ (q.0, q.1, skipped l x (OfArc first q.0) left q.1 e (separator first) (printed (l.text q.0) ++ 58 ∷ 32 ∷ text_of l left) (simp append_assoc))
     ]
 

@@ -4,7 +4,7 @@ ghost use Rattle.patr_text.specs.Texts.{Extends};
 ghost use Rattle.patr_model.specs.Items.{AValue};
 ghost use Rattle.patr_model.specs.Reading.{skip};
 ghost use Rattle.patr_model.specs.Stack.{separator};
-ghost use Rattle.patr_canon.specs.Items.{IsArcFront, IsBareFront, IsFurther, IsItem, IsNumbered, IsQuotedFront, IsSpelledItem, IsSymbolFront, expect_behind, expect_in, expected_seen};
+ghost use Rattle.patr_canon.specs.Items.{IsBareFront, IsFurther, IsItem, IsNumbered, IsQuotedFront, IsSpelledItem, IsSymbolFront, expect_behind, expect_in, expected_seen};
 ghost use Rattle.patr_canon.specs.Walks.{event_seen};
 
 use crate::event::Event;
@@ -97,29 +97,6 @@ fn symbol_front<'a>(
     }
 }
 
-/// An attribute with its `: `, and what is behind it.
-fn arc<'a>(
-    alloc: Global,
-    symbols: &mut Symbols,
-    first: bool,
-    text: &'a str,
-) -> Result<Option<(Event, &'a str)>, Memory>
-    requires room { length symbols.old + length text.now < 2 ^ 32 - 1 }
-    ensures table { Extends symbols.old symbols.new }
-    ensures limit { length symbols.new ≤ length symbols.old + length text.now }
-    ensures item { IfOk result (IsArcFront symbols.new first text.now) }
-    ensures further { IfOk result (IsFurther (length symbols.old) (length symbols.new) text.now) }
-    ensures spelled { IfOk result (IsSpelledItem (length symbols.new)) }
-{
-    let Some((attribute, rest)) = symbol_front(alloc, symbols, text)? else {
-        return Ok(None);
-    };
-    let Some(rest) = behind_both(rest, ':', ' ') else {
-        return Ok(None);
-    };
-    Ok(Some((Event::Arc { first, attribute }, rest)))
-}
-
 /// A number with the bracket of its node, or without, and what is behind it.
 fn numbered(text: &str) -> Option<(Event, &str)>
     ensures { IsNumbered text.now result }
@@ -164,7 +141,7 @@ fn separated(first: bool, text: &str) -> Option<&str>
     if first { Some(text) } else { behind(text, ' ') }
 }
 
-/// A node's bracket, or its first or a further attribute, and what is behind it.
+/// A node's bracket, or its first or a further attribute with its `: `, and what is behind it.
 fn node_item<'a>(
     alloc: Global,
     symbols: &mut Symbols,
@@ -184,7 +161,13 @@ fn node_item<'a>(
     let Some(rest) = separated(first, text) else {
         return Ok(None);
     };
-    arc(alloc, symbols, first, rest)
+    let Some((attribute, rest)) = symbol_front(alloc, symbols, rest)? else {
+        return Ok(None);
+    };
+    let Some(rest) = behind_both(rest, ':', ' ') else {
+        return Ok(None);
+    };
+    Ok(Some((Event::Arc { first, attribute }, rest)))
 }
 
 /// What stands at the front of a canonical text, or of what is left of one, by what is expected, and what is behind
