@@ -1,9 +1,10 @@
 -- What stands at the front of a canonical text is what the reader finds there.
-use Rattle.std.proofs.Common.{◌≡◌, ℕ, zero, suc, ◌+◌, ◌*◌, ◌-◌, ◌<◌, ◌≤◌, ◌^◌, Bool, true, false, cond, nat_eq, eqb-true, eq-eqb, true≢false, List, [], ◌∷◌, ◌++◌, length, append_assoc, Option, Some, None, option_map, refl, sym, ap, ◌∙◌, subst, arith, ne_eqb}
+use Rattle.std.proofs.Common.{◌≡◌, ◌⊎◌, inl, inr, ℕ, zero, suc, ◌+◌, ◌*◌, ◌-◌, ◌<◌, ◌≤◌, ◌^◌, Bool, true, false, cond, nat_eq, eqb-true, eq-eqb, true≢false, List, [], ◌∷◌, ◌++◌, length, append_assoc, Option, Some, None, option_map, refl, sym, ap, ◌∙◌, subst, arith, ne_eqb}
 use denote.Ref.{Bor}
-use Rattle.patr_canon.proofs.Names.{Closes, Event, EventFits, Id, IsArcFront, IsBareFront, IsItem, IsLookOf, IsNumberItem, IsNumbered, IsQuotedFront, IsSymbolFront, Look, OfAgain, OfArc, OfAtom, Opens, event_seen, is_digit, printed, reads, some_inj}
-use Rattle.patr_model.specs.Items.{AValue, AFirst, ANext, Follows, Item, AnAtom, AnAgain, AnOpening, item_of, item_front, number_item, with_number, value_item, text_of}
+use Rattle.patr_canon.proofs.Names.{Closes, Event, EventFits, Id, IsArcFront, IsBareFront, IsItem, IsLookOf, IsNumberItem, IsNumbered, IsQuotedFront, IsSymbolFront, Look, OfAgain, OfArc, OfAtom, Opens, event_seen, expect_in, is_digit, printed, reads, some_inj}
+use Rattle.patr_model.specs.Items.{AValue, Follows, Item, AnAtom, AnAgain, AnOpening, item_of, item_front, number_item, with_number, value_item, text_of}
 use Rattle.patr_model.specs.Reading.{Front, changed, skip, Opens as Bracket, Numbers, Other, bare_front, digits_step, digits_front, printed_front, printed_step, quoted_step, quoted_front}
+use Rattle.patr_model.specs.Stack.{separator}
 use Rattle.patr_model.proofs.Spelling.{printed_back, printed_begins, skip_back}
 use Rattle.patr_canon.specs.declared.event.Event as its
 use Rattle.patr_canon.specs.declared.event.Event.TheVariants as event
@@ -211,95 +212,55 @@ module _ (table : List (List ℕ)) (bs : List ℕ) (no_bracket : None ≡ skip (
 
 -- ---- what follows
 
--- an attribute's text and what is behind it
-arc_text : (t r : List ℕ) → (printed t ++ 58 ∷ 32 ∷ []) ++ r ≡ printed t ++ 58 ∷ 32 ∷ r
-arc_text t r = append_assoc (printed t) (58 ∷ 32 ∷ []) r
+-- in a node stands an arc or the closing bracket
+in_node : (first : Bool) (x : Event) (left : List Event) (d : ℕ) → Follows (x ∷ left) (expect_in first) d → (x ≡ Closes) ⊎ ((a : ℕ) × (x ≡ OfArc first a))
+in_node true (OfAtom c) left d f = absurd f
+in_node true (OfAgain n) left d f = absurd f
+in_node true (Opens n) left d f = absurd f
+in_node true (OfArc true a) left d f = inr (a, refl)
+in_node true (OfArc false a) left d f = absurd f
+in_node true Closes left d f = inl refl
+in_node false (OfAtom c) left d f = absurd f
+in_node false (OfAgain n) left d f = absurd f
+in_node false (Opens n) left d f = absurd f
+in_node false (OfArc true a) left d f = absurd f
+in_node false (OfArc false a) left d f = inr (a, refl)
+in_node false Closes left d f = inl refl
 
-no_closing : (t r rest bs : List ℕ) → (printed t ++ 58 ∷ 32 ∷ []) ++ r ≡ bs → Some rest ≡ skip (93 ∷ []) bs → ⊥
-no_closing t r rest bs e h =
+no_closing : (first : Bool) (t r rest bs : List ℕ) → (separator first ++ (printed t ++ 58 ∷ 32 ∷ [])) ++ r ≡ bs → Some rest ≡ skip (93 ∷ []) bs → ⊥
+no_closing false t r rest bs e h = let bad : Some rest ≡ None = h ∙ ap (skip (93 ∷ [])) (sym e) in cc
+no_closing true t r rest bs e h =
     let b = printed_begins t in
     let one : b.first ∷ ((b.rest ++ 58 ∷ 32 ∷ []) ++ r) ≡ 93 ∷ rest = ap (λ u. (u ++ 58 ∷ 32 ∷ []) ++ r) (sym b.is) ∙ (e ∙ starts 93 bs rest h) in
     let first : b.first ≡ 93 = cc in
     true≢false (sym (eq-eqb b.first 93 first) ∙ b.closes)
 
-closes_not : (l : Look) (left : List Event) (bs : List ℕ) → 93 ∷ text_of l left ≡ bs → None ≡ skip (93 ∷ []) bs → ⊥
-closes_not l left bs e h = let bad : None ≡ Some (text_of l left) = h ∙ (ap (skip (93 ∷ [])) (sym e) ∙ skip_back (93 ∷ []) (text_of l left)) in cc
+module _ (table : List (List ℕ)) (first : Bool) (bs : List ℕ) where
+  -- what is skipped of the text of a node's next event
+  skipped : (l : Look) (x y : Event) (left : List Event) → x ≡ y → text_of l (x ∷ left) ≡ bs → (front u : List ℕ) → text_of l (y ∷ left) ≡ front ++ u → skip front bs ≡ Some u
+  skipped l x y left same e front u is = ap (skip front) (sym e ∙ (ap (λ z. text_of l (z ∷ left)) same ∙ is)) ∙ skip_back front u
 
-closes_is : (l : Look) (left : List Event) (bs rest : List ℕ) → 93 ∷ text_of l left ≡ bs → Some rest ≡ skip (93 ∷ []) bs → text_of l left ≡ rest
-closes_is l left bs rest e h = some_inj (text_of l left) rest (sym (h ∙ (ap (skip (93 ∷ [])) (sym e) ∙ skip_back (93 ∷ []) (text_of l left))))
+  module _ (l : Look) (d : ℕ) (x : Event) (left : List Event) (f : Follows (x ∷ left) (expect_in first) d) (e : text_of l (x ∷ left) ≡ bs) where
+    pub node_closing : (rest : List ℕ) → Some rest ≡ skip (93 ∷ []) bs → (x ≡ Closes) × (text_of l left ≡ rest)
+    node_closing rest h = elim (in_node first x left d f) [
+      | inl q ↦ (q, sym (some_inj rest (text_of l left) (h ∙ skipped l x Closes left q e (93 ∷ []) (text_of l left) refl)))
+      | inr q ↦ absurd (no_closing first (l.text q.0) (text_of l left) rest bs (ap (λ y. text_of l (y ∷ left)) (sym q.1) ∙ e) h)
+    ]
 
-space_not_closing : (r bs rest : List ℕ) → 32 ∷ r ≡ bs → Some rest ≡ skip (93 ∷ []) bs → ⊥
-space_not_closing r bs rest e h = let bad : Some rest ≡ None = h ∙ ap (skip (93 ∷ [])) (sym e) in cc
+    -- what is not closed goes on with an arc behind its separator
+    node_goes_on : None ≡ skip (93 ∷ []) bs → (a : ℕ) × (x ≡ OfArc first a) × (skip (separator first) bs ≡ Some (printed (l.text a) ++ 58 ∷ 32 ∷ text_of l left))
+    node_goes_on h = elim (in_node first x left d f) [
+      | inl q ↦ absurd (none_not (text_of l left) (h ∙ skipped l x Closes left q e (93 ∷ []) (text_of l left) refl))
+      | inr q ↦ (q.0, q.1, skipped l x (OfArc first q.0) left q.1 e (separator first) (printed (l.text q.0) ++ 58 ∷ 32 ∷ text_of l left) (simp append_assoc))
+    ]
 
-pub first_closing : (bs rest : List ℕ) → Some rest ≡ skip (93 ∷ []) bs → (l : Look) (d : ℕ) (x : Event) (left : List Event) → Follows (x ∷ left) AFirst d → text_of l (x ∷ left) ≡ bs → (x ≡ Closes) × (text_of l left ≡ rest)
-first_closing bs rest h l d (OfAtom c) left f e = absurd f
-first_closing bs rest h l d (OfAgain n) left f e = absurd f
-first_closing bs rest h l d (Opens n) left f e = absurd f
-first_closing bs rest h l d (OfArc true a) left f e = absurd (no_closing (l.text a) (text_of l left) rest bs e h)
-first_closing bs rest h l d (OfArc false a) left f e = absurd f
-first_closing bs rest h l d Closes left f e = (refl, closes_is l left bs rest e h)
+  pub node_none : None ≡ skip (93 ∷ []) bs → None ≡ skip (separator first) bs → IsItem table (expect_in first) bs None
+  node_none h s = λ l is d x left f fits e. let n = node_goes_on l d x left f e h in none_not _ (s ∙ n.2)
 
-pub first_arc : (table : List (List ℕ)) (bs : List ℕ) (r : Option (its.Event × Bor (List ℕ))) → None ≡ skip (93 ∷ []) bs → IsArcFront table true bs r → IsItem table AFirst bs r
-first_arc table bs None h k = λ l is d x left f fits e. go l is d x left f e
-  where
-    go : (l : Look) → IsLookOf table l → (d : ℕ) (x : Event) (left : List Event) → Follows (x ∷ left) AFirst d → text_of l (x ∷ left) ≡ bs → ⊥
-    go l is d (OfAtom c) left f e = f
-    go l is d (OfAgain n) left f e = f
-    go l is d (Opens n) left f e = f
-    go l is d (OfArc true a) left f e = k l is a (text_of l left) (sym (arc_text (l.text a) (text_of l left)) ∙ e)
-    go l is d (OfArc false a) left f e = f
-    go l is d Closes left f e = closes_not l left bs e h
-first_arc table bs (Some r) h k = λ l is d x left f fits e. go l is d x left f e
-  where
-    go : (l : Look) → IsLookOf table l → (d : ℕ) (x : Event) (left : List Event) → Follows (x ∷ left) AFirst d → text_of l (x ∷ left) ≡ bs → (x ≡ event_seen r.0) × (text_of l left ≡ r.1.now)
-    go l is d (OfAtom c) left f e = absurd f
-    go l is d (OfAgain n) left f e = absurd f
-    go l is d (Opens n) left f e = absurd f
-    go l is d (OfArc true a) left f e = k l is a (text_of l left) (sym (arc_text (l.text a) (text_of l left)) ∙ e)
-    go l is d (OfArc false a) left f e = absurd f
-    go l is d Closes left f e = absurd (closes_not l left bs e h)
-
-pub next_closing : (bs rest : List ℕ) → Some rest ≡ skip (93 ∷ []) bs → (l : Look) (d : ℕ) (x : Event) (left : List Event) → Follows (x ∷ left) ANext d → text_of l (x ∷ left) ≡ bs → (x ≡ Closes) × (text_of l left ≡ rest)
-next_closing bs rest h l d (OfAtom c) left f e = absurd f
-next_closing bs rest h l d (OfAgain n) left f e = absurd f
-next_closing bs rest h l d (Opens n) left f e = absurd f
-next_closing bs rest h l d (OfArc true a) left f e = absurd f
-next_closing bs rest h l d (OfArc false a) left f e = absurd (space_not_closing ((printed (l.text a) ++ 58 ∷ 32 ∷ []) ++ text_of l left) bs rest e h)
-next_closing bs rest h l d Closes left f e = (refl, closes_is l left bs rest e h)
-
-pub next_none : (bs : List ℕ) → None ≡ skip (93 ∷ []) bs → None ≡ skip (32 ∷ []) bs → (l : Look) (d : ℕ) (x : Event) (left : List Event) → Follows (x ∷ left) ANext d → text_of l (x ∷ left) ≡ bs → ⊥
-next_none bs h s l d (OfAtom c) left f e = f
-next_none bs h s l d (OfAgain n) left f e = f
-next_none bs h s l d (Opens n) left f e = f
-next_none bs h s l d (OfArc true a) left f e = f
-next_none bs h s l d (OfArc false a) left f e =
-    let r = (printed (l.text a) ++ 58 ∷ 32 ∷ []) ++ text_of l left in
-    let bad : None ≡ Some r = s ∙ (ap (skip (32 ∷ [])) (sym e) ∙ skip_back (32 ∷ []) r) in cc
-next_none bs h s l d Closes left f e = closes_not l left bs e h
-
-behind_space : (t r rest bs : List ℕ) → 32 ∷ ((printed t ++ 58 ∷ 32 ∷ []) ++ r) ≡ bs → Some rest ≡ skip (32 ∷ []) bs → printed t ++ 58 ∷ 32 ∷ r ≡ rest
-behind_space t r rest bs e h =
-    let u = (printed t ++ 58 ∷ 32 ∷ []) ++ r in
-    sym (arc_text t r) ∙ some_inj u rest (sym (h ∙ (ap (skip (32 ∷ [])) (sym e) ∙ skip_back (32 ∷ []) u)))
-
-pub next_arc : (table : List (List ℕ)) (bs rest : List ℕ) (r : Option (its.Event × Bor (List ℕ))) → None ≡ skip (93 ∷ []) bs → Some rest ≡ skip (32 ∷ []) bs → IsArcFront table false rest r → IsItem table ANext bs r
-next_arc table bs rest None h s k = λ l is d x left f fits e. go l is d x left f e
-  where
-    go : (l : Look) → IsLookOf table l → (d : ℕ) (x : Event) (left : List Event) → Follows (x ∷ left) ANext d → text_of l (x ∷ left) ≡ bs → ⊥
-    go l is d (OfAtom c) left f e = f
-    go l is d (OfAgain n) left f e = f
-    go l is d (Opens n) left f e = f
-    go l is d (OfArc true a) left f e = f
-    go l is zero (OfArc false a) left f e = f
-    go l is (suc d) (OfArc false a) left f e = k l is a (text_of l left) (behind_space (l.text a) (text_of l left) rest bs e s)
-    go l is d Closes left f e = closes_not l left bs e h
-next_arc table bs rest (Some r) h s k = λ l is d x left f fits e. go l is d x left f e
-  where
-    go : (l : Look) → IsLookOf table l → (d : ℕ) (x : Event) (left : List Event) → Follows (x ∷ left) ANext d → text_of l (x ∷ left) ≡ bs → (x ≡ event_seen r.0) × (text_of l left ≡ r.1.now)
-    go l is d (OfAtom c) left f e = absurd f
-    go l is d (OfAgain n) left f e = absurd f
-    go l is d (Opens n) left f e = absurd f
-    go l is d (OfArc true a) left f e = absurd f
-    go l is zero (OfArc false a) left f e = absurd f
-    go l is (suc d) (OfArc false a) left f e = k l is a (text_of l left) (behind_space (l.text a) (text_of l left) rest bs e s)
-    go l is d Closes left f e = absurd (closes_not l left bs e h)
+  pub node_arc : (rest : List ℕ) (r : Option (its.Event × Bor (List ℕ))) → None ≡ skip (93 ∷ []) bs → Some rest ≡ skip (separator first) bs → IsArcFront table first rest r → IsItem table (expect_in first) bs r
+  node_arc rest None h s k = λ l is d x left f fits e.
+      let n = node_goes_on l d x left f e h in k l is n.0 (text_of l left) (some_inj _ rest (sym n.2 ∙ sym s))
+  node_arc rest (Some r) h s k = λ l is d x left f fits e.
+      let n = node_goes_on l d x left f e h in
+      let b = k l is n.0 (text_of l left) (some_inj _ rest (sym n.2 ∙ sym s)) in
+      (n.1 ∙ b.0, b.1)

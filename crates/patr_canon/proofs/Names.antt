@@ -6,7 +6,7 @@ pub use Rattle.patr_arena.specs.Shown.{AllHeld, IsHeld, IsShown, RefIsHeld, Show
 pub use Rattle.patr_arena.specs.declared.value.Feature.{Feature}
 pub use Rattle.patr_arena.specs.declared.value.Ref.{Ref}
 pub use Rattle.patr_canon.specs.Built.{ArcsAreBelow, HasBuilt, IsBuiltOf, IsReadBelow, IsWritten, RootIsBelow}
-pub use Rattle.patr_canon.specs.Items.{EventFits, IsArcFront, IsBareFront, IsItem, IsLookOf, IsNumberItem, IsNumbered, IsQuotedFront, IsSymbolFront, expect_behind}
+pub use Rattle.patr_canon.specs.Items.{EventFits, IsArcFront, IsBareFront, IsItem, IsLookOf, IsNumberItem, IsNumbered, IsQuotedFront, IsSymbolFront, expect_behind, expect_in}
 pub use Rattle.patr_canon.specs.Made.{AreMoved, IsMade, feature_seen, leads_below, ref_seen, value_seen}
 pub use Rattle.patr_canon.specs.Nodes.{IsRefBelow, NodeIsBelow, NodesAreBelow}
 pub use Rattle.patr_canon.specs.Numbers.{AreOnce, EventIsNumbered, EventsAreNumbered, again_of, number_by, opened_of}

@@ -2,7 +2,7 @@
 use Rattle.std.proofs.Common.{◌≡◌, ℕ, zero, suc, ◌+◌, ◌<◌, ◌≤◌, Bool, true, false, cond, not, ◌||◌, nat_eq, nat_lt, ltb-true, ltb-false, lt-ltb, true≢false, List, [], ◌∷◌, ◌++◌, append-nil, flat_map, length, take, drop, get_or, Option, Some, None, option_map, is_some, slice_get, refl, sym, ap, ◌∙◌, subst, arith}
 use Rattle.std.proofs.lemmas.Grind.{flat_map-append}
 use Rattle.patr_lists.proofs.Alls.{all_append}
-use Rattle.patr_canon.proofs.Names.{Again, AllByRecursion, AreOnce, Begun, Branch, Branches, Closes, Done, Event, EventIsNumbered, EventsAreNumbered, EventsTell, IsDone, IsStructure, IsValue, Leaf, Look, OfAgain, OfArc, OfAtom, Opens, Outline, Structure, Value, again_of, canonical, drop_more, event_seen, event_text, events, events_of, events_seen, from_one, kept, list_any, map-append, met_again, number_by, number_in, opened, opened_of, outline, place_in, place_longer, place_there, position, position_or_len, renumbered, renumbered_all, repeats, some_inj, take-append-drop, take_more, tree_of, visits}
+use Rattle.patr_canon.proofs.Names.{Again, AllByRecursion, AreOnce, Begun, Branch, Branches, Closes, Done, Event, EventIsNumbered, EventsAreNumbered, EventsTell, IsDone, IsStructure, IsValue, Leaf, Look, OfAgain, OfArc, OfAtom, Opens, Outline, Structure, Value, again_of, append_assoc, canonical, drop_more, event_seen, event_text, events, events_of, events_seen, from_one, kept, list_any, map-append, met_again, number_by, number_in, opened, opened_of, outline, place_in, place_longer, place_there, position, position_or_len, renumbered, renumbered_all, repeats, some_inj, take-append-drop, take_more, tree_of, visits}
 use Rattle.std.specs.HashSet.{HashSet, contains}
 use Rattle.patr_model.proofs.Keyed as keyed
 use Rattle.patr_model.proofs.Numbered.{tree_numbers}
@@ -68,6 +68,11 @@ kept_more these (m ∷ ns) n = go (is_some (place_in these m)) (kept_more these 
         → cond b (m ∷ kept these (ns ++ n ∷ [])) (kept these (ns ++ n ∷ [])) ≡ cond b (m ∷ kept these ns) (kept these ns) ++ cond (is_some (place_in these n)) (n ∷ []) []
     go true e = ap (λ ks. m ∷ ks) e
     go false e = e
+
+-- where nothing is among these, nothing is kept
+pub none_kept : (these ns : List ℕ) → ((m : ℕ) → is_some (place_in these m) ≡ false) → kept these ns ≡ []
+none_kept these [] h = refl
+none_kept these (m ∷ ns) h = ap (λ b. cond b (m ∷ kept these ns) (kept these ns)) (h m) ∙ none_kept these ns h
 
 any_placed : (ns : List ℕ) (n : ℕ) → list_any (nat_eq n) ns ≡ is_some (place_in ns n)
 any_placed [] n = refl
@@ -228,12 +233,13 @@ all_at P [] i d h k = absurd (omega (arith, h))
 all_at P (e ∷ es) zero d h k = k.0
 all_at P (e ∷ es) (suc i) d h k = all_at P es i d (omega (arith, h)) k.1
 
-pub text_more : (f : Event → List ℕ) (es : List its.Event) (i : ℕ) (d : its.Event) (text : List ℕ) → i < length es → text ≡ flat_map f (events_seen (take i es))
-    → text ++ f (event_seen (get_or es i d)) ≡ flat_map f (events_seen (take (i + 1) es))
-text_more f es i d text h e =
+pub text_more : (f : Event → List ℕ) (es : List its.Event) (i : ℕ) (d : its.Event) (old text : List ℕ) → i < length es → text ≡ old ++ flat_map f (events_seen (take i es))
+    → text ++ f (event_seen (get_or es i d)) ≡ old ++ flat_map f (events_seen (take (i + 1) es))
+text_more f es i d old text h e =
     ap (λ t. t ++ f (event_seen (get_or es i d))) e
-    ∙ (ap (λ t. flat_map f (events_seen (take i es)) ++ t) (sym (append-nil (f (event_seen (get_or es i d)))))
-    ∙ (sym (flat_map-append f (events_seen (take i es)) (event_seen (get_or es i d) ∷ [])) ∙ ap (flat_map f) (sym (seen_more es i d h))))
+    ∙ (append_assoc old (flat_map f (events_seen (take i es))) (f (event_seen (get_or es i d)))
+    ∙ ap (λ t. old ++ t) (ap (λ t. flat_map f (events_seen (take i es)) ++ t) (sym (append-nil (f (event_seen (get_or es i d)))))
+    ∙ (sym (flat_map-append f (events_seen (take i es)) (event_seen (get_or es i d) ∷ [])) ∙ ap (flat_map f) (sym (seen_more es i d h)))))
 
 -- ---- what was met, where it is a value's events
 
@@ -250,6 +256,7 @@ module _ (l : Look) (S : Structure) (v : Value) (s : IsStructure S) (p : IsValue
       (subst (λ ns. EventsAreNumbered (kept ns (opened (events (tree_of l S v)))) (events (tree_of l S v))) (sym told.again)
       (subst (λ ns. EventsAreNumbered (kept (repeats (tree_of l S v)) ns) (events (tree_of l S v))) (sym told.first) (again_numbered l S v s p)))
 
+  -- and the text by them is that of the value
   pub met_text : flat_map (event_text l (number_by (kept (met_again met) (opened met)))) met ≡ canonical l S v
   met_text =
       ap (λ es. flat_map (event_text l (number_by (kept (met_again es) (opened es)))) es) is

@@ -2,7 +2,7 @@
 --     IsLookOf      a Look that has the texts of a table
 --     IsItem        what stands at the front of a text that some Look gives
 --     IsFurther     the table grew by no more than the text got shorter
-use Rattle.std.specs.Prelude.{◌≡◌, ℕ, ◌+◌, ◌<◌, ◌≤◌, ◌^◌, Bool, false, List, [], ◌∷◌, ◌++◌, length, slice_get, Option, Some, None}
+use Rattle.std.specs.Prelude.{◌≡◌, ℕ, ◌+◌, ◌<◌, ◌≤◌, ◌^◌, Bool, true, false, List, [], ◌∷◌, ◌++◌, length, slice_get, Option, Some, None}
 use denote.Ref.{Bor}
 use Rattle.patr_model.specs.Items.{Expect, AValue, AFirst, ANext, Follows, AnAgain, AnOpening, text_of, with_number}
 use Rattle.patr_model.specs.Laws.{TextsDiffer}
@@ -26,6 +26,11 @@ abbrev pub expected_seen : Expected → Expect
 expected_seen expected.Value = AValue
 expected_seen expected.First = AFirst
 expected_seen expected.Next = ANext
+
+-- what is expected in a node: its first attribute or its bracket, or what follows a value
+abbrev pub expect_in : Bool → Expect
+expect_in true = AFirst
+expect_in false = ANext
 
 -- what is expected behind an event
 abbrev pub expect_behind : Event → Expect

@@ -1,9 +1,10 @@
 //! A canonical text, one thing after another.
-ghost use Rattle.std.specs.Prelude.{◌≡◌, ◌≤◌, ◌<◌, ◌+◌, ◌-◌, ◌^◌, length, slice_get, IfOk, MatchOption, Some, [], ◌∷◌, option_copied, None};
+ghost use Rattle.std.specs.Prelude.{◌≡◌, ◌≤◌, ◌<◌, ◌+◌, ◌-◌, ◌^◌, length, slice_get, IfOk, IfSome, MatchOption, Some, [], ◌∷◌, option_copied, None};
 ghost use Rattle.patr_text.specs.Texts.{Extends};
-ghost use Rattle.patr_model.specs.Items.{AValue, AFirst, ANext};
+ghost use Rattle.patr_model.specs.Items.{AValue};
 ghost use Rattle.patr_model.specs.Reading.{skip};
-ghost use Rattle.patr_canon.specs.Items.{IsArcFront, IsBareFront, IsFurther, IsItem, IsNumbered, IsQuotedFront, IsSpelledItem, IsSymbolFront, expect_behind, expected_seen};
+ghost use Rattle.patr_model.specs.Stack.{separator};
+ghost use Rattle.patr_canon.specs.Items.{IsBareFront, IsFurther, IsItem, IsNumbered, IsQuotedFront, IsSpelledItem, IsSymbolFront, expect_behind, expect_in, expected_seen};
 ghost use Rattle.patr_canon.specs.Walks.{event_seen};
 
 use crate::event::Event;
@@ -96,29 +97,6 @@ fn symbol_front<'a>(
     }
 }
 
-/// An attribute with its `: `, and what is behind it.
-fn arc<'a>(
-    alloc: Global,
-    symbols: &mut Symbols,
-    first: bool,
-    text: &'a str,
-) -> Result<Option<(Event, &'a str)>, Memory>
-    requires room { length symbols.old + length text.now < 2 ^ 32 - 1 }
-    ensures table { Extends symbols.old symbols.new }
-    ensures limit { length symbols.new ≤ length symbols.old + length text.now }
-    ensures item { IfOk result (IsArcFront symbols.new first text.now) }
-    ensures further { IfOk result (IsFurther (length symbols.old) (length symbols.new) text.now) }
-    ensures spelled { IfOk result (IsSpelledItem (length symbols.new)) }
-{
-    let Some((attribute, rest)) = symbol_front(alloc, symbols, text)? else {
-        return Ok(None);
-    };
-    let Some(rest) = behind_both(rest, ':', ' ') else {
-        return Ok(None);
-    };
-    Ok(Some((Event::Arc { first, attribute }, rest)))
-}
-
 /// A number with the bracket of its node, or without, and what is behind it.
 fn numbered(text: &str) -> Option<(Event, &str)>
     ensures { IsNumbered text.now result }
@@ -155,45 +133,41 @@ fn value_item<'a>(
     Ok(Some((Event::Atom(atom), rest)))
 }
 
-/// A node's bracket or its first attribute, and what is behind it.
-fn first_item<'a>(
-    alloc: Global,
-    symbols: &mut Symbols,
-    text: &'a str,
-) -> Result<Option<(Event, &'a str)>, Memory>
-    requires room { length symbols.old + length text.now < 2 ^ 32 - 1 }
-    ensures table { Extends symbols.old symbols.new }
-    ensures limit { length symbols.new ≤ length symbols.old + length text.now }
-    ensures item { IfOk result (IsItem symbols.new AFirst text.now) }
-    ensures further { IfOk result (IsFurther (length symbols.old) (length symbols.new) text.now) }
-    ensures spelled { IfOk result (IsSpelledItem (length symbols.new)) }
+/// What is behind the separator of an arc, which is empty before a node's first one.
+fn separated(first: bool, text: &str) -> Option<&str>
+    ensures rest { option_copied result ≡ skip (separator first) text.now }
+    ensures shorter { IfSome result (λ rest. length rest.now ≤ length text.now) }
 {
-    if let Some(rest) = behind(text, ']') {
-        return Ok(Some((Event::Close, rest)));
-    }
-    arc(alloc, symbols, true, text)
+    if first { Some(text) } else { behind(text, ' ') }
 }
 
-/// A node's bracket or a further attribute, and what is behind it.
-fn next_item<'a>(
+/// A node's bracket, or its first or a further attribute with its `: `, and what is behind it.
+fn node_item<'a>(
     alloc: Global,
     symbols: &mut Symbols,
+    first: bool,
     text: &'a str,
 ) -> Result<Option<(Event, &'a str)>, Memory>
     requires room { length symbols.old + length text.now < 2 ^ 32 - 1 }
     ensures table { Extends symbols.old symbols.new }
     ensures limit { length symbols.new ≤ length symbols.old + length text.now }
-    ensures item { IfOk result (IsItem symbols.new ANext text.now) }
+    ensures item { IfOk result (IsItem symbols.new (expect_in first) text.now) }
     ensures further { IfOk result (IsFurther (length symbols.old) (length symbols.new) text.now) }
     ensures spelled { IfOk result (IsSpelledItem (length symbols.new)) }
 {
     if let Some(rest) = behind(text, ']') {
         return Ok(Some((Event::Close, rest)));
     }
-    let Some(rest) = behind(text, ' ') else {
+    let Some(rest) = separated(first, text) else {
         return Ok(None);
     };
-    arc(alloc, symbols, false, rest)
+    let Some((attribute, rest)) = symbol_front(alloc, symbols, rest)? else {
+        return Ok(None);
+    };
+    let Some(rest) = behind_both(rest, ':', ' ') else {
+        return Ok(None);
+    };
+    Ok(Some((Event::Arc { first, attribute }, rest)))
 }
 
 /// What stands at the front of a canonical text, or of what is left of one, by what is expected, and what is behind
@@ -213,7 +187,7 @@ pub(crate) fn item_front<'a>(
 {
     match expected {
         Expected::Value => value_item(alloc, symbols, text),
-        Expected::First => first_item(alloc, symbols, text),
-        Expected::Next => next_item(alloc, symbols, text),
+        Expected::First => node_item(alloc, symbols, true, text),
+        Expected::Next => node_item(alloc, symbols, false, text),
     }
 }

@@ -17,7 +17,7 @@ mod walk;
 pub use patr_text::{Fault, Id, Memory};
 pub use printed::write_printed;
 pub use read_back::{NotCanonical, read_canonical};
-pub use text::canonical;
+pub use text::{TextRoom, canonical, write_canonical};
 
 #[cfg(test)]
 mod tests;

@@ -8,34 +8,36 @@ ghost use Rattle.patr_canon.specs.Walks.{IsDone, events_seen};
 use crate::event::Event;
 use indexmap::IndexSet;
 use patr_text::Memory;
-use std::alloc::Global;
 use std::collections::HashSet;
 
-/// The nodes that are met again.
-pub(crate) fn met_again(alloc: Global, events: &[Event]) -> Result<HashSet<u64>, Memory>
-    ensures { IfOk result (λ again. IsDone again (met_again (events_seen events.now))) }
+/// Makes `again` the nodes that are met again.
+pub(crate) fn met_again(events: &[Event], again: &mut HashSet<u64>) -> Result<(), Memory>
+    ensures { IfOk result (λ _. IsDone again.new (met_again (events_seen events.now))) }
 {
-    let mut again = HashSet::new(alloc);
+    again.clear();
     for event in events {
         let Some(node) = event.again() else {
             continue;
         };
         again.insert(node)?;
     }
-    Ok(again)
+    Ok(())
 }
 
-/// The nodes that have a number, in the order of their first visits: those that are met again.
-pub(crate) fn numbered(
-    alloc: Global,
+/// Makes `numbered` the nodes that have a number, in the order of their first visits: those that are met again.
+pub(crate) fn number_nodes(
     events: &[Event],
     again: &HashSet<u64>,
-) -> Result<IndexSet<u64>, Memory>
+    numbered: &mut IndexSet<u64>,
+) -> Result<(), Memory>
     requires again { IsDone again.now (met_again (events_seen events.now)) }
     requires once { AreOnce (opened (events_seen events.now)) }
-    ensures { IfOk result (λ numbered. numbered.keys ≡ kept (met_again (events_seen events.now)) (opened (events_seen events.now))) }
+    ensures { IfOk result (λ _. numbered.new.keys ≡ kept (met_again (events_seen events.now)) (opened (events_seen events.now))) }
 {
-    let mut numbered = IndexSet::new(alloc);
+    numbered.clear();
+    if again.is_empty() {
+        return Ok(());
+    }
     for event in events {
         let Some(node) = event.opened() else {
             continue;
@@ -45,13 +47,16 @@ pub(crate) fn numbered(
         }
         numbered.insert(node)?;
     }
-    Ok(numbered)
+    Ok(())
 }
 
 /// A node's number, from 1, where it has one.
 pub(crate) fn number_of(numbered: &IndexSet<u64>, node: u64) -> Option<usize>
     ensures { result ≡ option_map (λ place. suc place) (place_in numbered.now.keys node) }
 {
+    if numbered.is_empty() {
+        return None;
+    }
     let _count = numbered.len();
     let place = numbered.get_index_of(&node)?;
     Some(place + 1)

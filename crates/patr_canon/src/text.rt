@@ -11,14 +11,15 @@ ghost use Rattle.patr_canon.specs.Orders.{look_of};
 ghost use Rattle.patr_canon.specs.Walks.{AreSpelled, EventIsSpelled, EventsAreSpelled, event_seen, events_seen};
 
 use crate::event::Event;
-use crate::numbers::{met_again, number_of, numbered};
+use crate::numbers::{met_again, number_nodes, number_of};
 use crate::order::Look;
 use crate::printed::write_printed;
-use crate::walk::walked;
+use crate::walk::{Walk, walked};
 use indexmap::IndexSet;
 use patr_arena::{Nodes, Value};
 use patr_text::{Id, Memory, Symbols};
 use std::alloc::Global;
+use std::collections::HashSet;
 
 /// Appends a number, behind a `#`.
 fn write_number(number: usize, out: &mut String) -> Result<(), Memory>
@@ -75,34 +76,64 @@ fn write_event(
     }
 }
 
-/// The text of what a walk met.
-fn written(
-    alloc: Global,
+/// Appends the text of what a walk met.
+fn write_events(
     look: &Look,
     events: &[Event],
     numbered: &IndexSet<u64>,
-) -> Result<String, Memory>
+    out: &mut String,
+) -> Result<(), Memory>
     requires spelled { EventsAreSpelled (length look.now.symbols.now) (events_seen events.now) }
     requires numbered { EventsAreNumbered numbered.now.keys (events_seen events.now) }
-    ensures { IfOk result (λ text. string_bytes text ≡ flat_map (event_text (look_of look.now) (number_by numbered.now.keys)) (events_seen events.now)) }
+    ensures { IfOk result (λ _. string_bytes out.new ≡ string_bytes out.old ++ flat_map (event_text (look_of look.now) (number_by numbered.now.keys)) (events_seen events.now)) }
 {
-    let mut text = String::new(alloc);
     for event in events {
-        write_event(look, numbered, *event, &mut text)?;
+        write_event(look, numbered, *event, out)?;
     }
-    Ok(text)
+    Ok(())
 }
 
-/// The text of what a walk met, where the nodes that are met again have numbers by first visits.
-fn text_of(alloc: Global, look: &Look, events: &[Event]) -> Result<String, Memory>
-    requires spelled { EventsAreSpelled (length look.now.symbols.now) (events_seen events.now) }
-    requires once { AreOnce (opened (events_seen events.now)) }
-    requires numbered { EventsAreNumbered (kept (met_again (events_seen events.now)) (opened (events_seen events.now))) (events_seen events.now) }
-    ensures { IfOk result (λ text. string_bytes text ≡ flat_map (event_text (look_of look.now) (number_by (kept (met_again (events_seen events.now)) (opened (events_seen events.now))))) (events_seen events.now)) }
+/// What the writing of a value's text works with: a walk, the nodes that are met again, and those that have numbers.
+/// One text after another takes the same memory.
+#[derive(Drop)]
+pub struct TextRoom<'a> {
+    walk: Walk<'a>,
+    again: HashSet<u64>,
+    numbered: IndexSet<u64>,
+}
+
+impl<'a> TextRoom<'a> {
+    /// Room that takes no memory yet.
+    pub fn new(alloc: Global) -> TextRoom<'a> {
+        TextRoom {
+            walk: Walk::new(alloc),
+            again: HashSet::new(alloc),
+            numbered: IndexSet::new(alloc),
+        }
+    }
+}
+
+/// Appends the canonical text of a value that is held, as `canonical` answers it. What stood in `room` does not matter.
+/// Fails for want of memory alone.
+pub fn write_canonical<'a, N: Nodes>(
+    alloc: Global,
+    room: &mut TextRoom<'a>,
+    symbols: &'a Symbols,
+    order: &'a [Id],
+    nodes: &N,
+    value: Value,
+    out: &mut String,
+) -> Result<(), Memory>
+    requires value { ValueIsHeld (N.shown nodes.now) value }
+    requires spelled { AreSpelled (length symbols.now) (N.shown nodes.now).structure (value_of (N.shown nodes.now) value) }
+    ensures { IfOk result (λ _. string_bytes out.new ≡ string_bytes out.old ++ canonical (table_look symbols.now (ids order.now)) (N.shown nodes.now).structure (value_of (N.shown nodes.now) value)) }
 {
-    let again = met_again(alloc, events)?;
-    let numbered = numbered(alloc, events, &again)?;
-    written(alloc, look, events, &numbered)
+    let look = Look::new(alloc, symbols, order)?;
+    walked(&mut room.walk, &look, nodes, value)?;
+    let events = room.walk.events.as_slice();
+    met_again(events, &mut room.again)?;
+    number_nodes(events, &room.again, &mut room.numbered)?;
+    write_events(&look, events, &room.numbered, out)
 }
 
 /// The canonical text of a value that is held. Two values have one text, under one order of attributes, exactly where
@@ -123,7 +154,8 @@ pub fn canonical<N: Nodes>(
     requires spelled { AreSpelled (length symbols.now) (N.shown nodes.now).structure (value_of (N.shown nodes.now) value) }
     ensures { IfOk result (λ text. string_bytes text ≡ canonical (table_look symbols.now (ids order.now)) (N.shown nodes.now).structure (value_of (N.shown nodes.now) value)) }
 {
-    let look = Look::new(alloc, symbols, order)?;
-    let events = walked(alloc, &look, nodes, value)?;
-    text_of(alloc, &look, &events)
+    let mut text = String::new(alloc);
+    let mut room = TextRoom::new(alloc);
+    write_canonical(alloc, &mut room, symbols, order, nodes, value, &mut text)?;
+    Ok(text)
 }

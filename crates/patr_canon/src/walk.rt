@@ -27,19 +27,20 @@ enum Task {
     Close(u64),
 }
 
-/// A walk: the nodes that are done, what it met, and what it has still to do, the next at the end.
+/// A walk: the nodes that are done, what it met, what it has still to do, the next at the end, and room for the arcs of
+/// a node.
 #[derive(Drop)]
-struct Walk {
+pub(crate) struct Walk<'a> {
     done: HashSet<u64>,
-    events: Vec<Event>,
+    pub(crate) events: Vec<Event>,
     tasks: Vec<Task>,
+    arcs: Vec<Arc<'a>>,
 }
 
 /// Puts a node's arcs before the other tasks.
-fn push_arcs(arcs: Vec<Arc>, tasks: &mut Vec<Task>) -> Result<(), Memory>
-    ensures { IfOk result (λ _. reverse tasks.new.items ≡ arc_tasks true arcs.entry.items ++ reverse tasks.old.items) }
+fn push_arcs(arcs: &mut Vec<Arc>, tasks: &mut Vec<Task>) -> Result<(), Memory>
+    ensures { IfOk result (λ _. reverse tasks.new.items ≡ arc_tasks true arcs.old.items ++ reverse tasks.old.items) }
 {
-    let mut arcs = arcs;
     while let Some(arc) = arcs.pop() {
         tasks.push(Task::Arc {
             first: arcs.is_empty(),
@@ -50,12 +51,21 @@ fn push_arcs(arcs: Vec<Arc>, tasks: &mut Vec<Task>) -> Result<(), Memory>
     Ok(())
 }
 
-impl Walk {
+impl<'a> Walk<'a> {
+    /// A walk that has met nothing.
+    pub(crate) fn new(alloc: Global) -> Walk<'a> {
+        Walk {
+            done: HashSet::new(alloc),
+            events: Vec::new(alloc),
+            tasks: Vec::new(alloc),
+            arcs: Vec::new(alloc),
+        }
+    }
+
     /// Begins a node that is not done.
     fn open<N: Nodes>(
         &mut self,
-        alloc: Global,
-        look: &Look,
+        look: &Look<'a>,
         nodes: &N,
         at: Addr,
         node: u64,
@@ -67,21 +77,15 @@ impl Walk {
         requires new { contains nat_eq self.old.done node ≡ false }
         ensures { IfOk result (λ _. HasEntered (N.shown nodes.now) look.now (value.Node at) self.old self.new) }
     {
-        let arcs = arcs_in_order(alloc, look, nodes, at)?;
+        arcs_in_order(look, nodes, at, &mut self.arcs)?;
         self.events.push(Event::Open(node))?;
         self.tasks.push(Task::Close(node))?;
-        push_arcs(arcs, &mut self.tasks)?;
+        push_arcs(&mut self.arcs, &mut self.tasks)?;
         Ok(())
     }
 
     /// Goes on with a value.
-    fn enter<N: Nodes>(
-        &mut self,
-        alloc: Global,
-        look: &Look,
-        nodes: &N,
-        value: Value,
-    ) -> Result<(), Memory>
+    fn enter<N: Nodes>(&mut self, look: &Look<'a>, nodes: &N, value: Value) -> Result<(), Memory>
         requires look { IsLook look.now }
         requires value { ValueIsHeld (N.shown nodes.now) value }
         requires spelled { AreSpelled (length look.now.symbols.now) (N.shown nodes.now).structure (value_of (N.shown nodes.now) value) }
@@ -98,7 +102,7 @@ impl Walk {
                     self.events.push(Event::Again(node))?;
                     Ok(())
                 } else {
-                    self.open(alloc, look, nodes, at, node)?;
+                    self.open(look, nodes, at, node)?;
                     Ok(())
                 }
             }
@@ -106,13 +110,7 @@ impl Walk {
     }
 
     /// Does one task.
-    fn step<N: Nodes>(
-        &mut self,
-        alloc: Global,
-        look: &Look,
-        nodes: &N,
-        task: Task,
-    ) -> Result<(), Memory>
+    fn step<N: Nodes>(&mut self, look: &Look<'a>, nodes: &N, task: Task) -> Result<(), Memory>
         requires look { IsLook look.now }
         requires task { TaskIsReady (N.shown nodes.now) (length look.now.symbols.now) task }
         ensures { IfOk result (λ _. HasStepped (N.shown nodes.now) look.now task self.old self.new) }
@@ -129,34 +127,33 @@ impl Walk {
                 to,
             } => {
                 self.events.push(Event::Arc { first, attribute })?;
-                self.enter(alloc, look, nodes, to)?;
+                self.enter(look, nodes, to)?;
                 Ok(())
             }
         }
     }
 }
 
-/// What a walk from a value meets, one thing after another. Each node's arcs come in the order of attributes.
-pub(crate) fn walked<N: Nodes>(
-    alloc: Global,
-    look: &Look,
+/// Walks from a value anew. `walk` then has what it met, one thing after another; each node's arcs come in the order of
+/// attributes.
+pub(crate) fn walked<'a, N: Nodes>(
+    walk: &mut Walk<'a>,
+    look: &Look<'a>,
     nodes: &N,
     value: Value,
-) -> Result<Vec<Event>, Memory>
+) -> Result<(), Memory>
     requires look { IsLook look.now }
     requires value { ValueIsHeld (N.shown nodes.now) value }
     requires spelled { AreSpelled (length look.now.symbols.now) (N.shown nodes.now).structure (value_of (N.shown nodes.now) value) }
-    ensures events { IfOk result (λ met. events_seen met.items ≡ events (tree_of (look_of look.now) (N.shown nodes.now).structure (value_of (N.shown nodes.now) value))) }
-    ensures spelled { IfOk result (λ met. EventsAreSpelled (length look.now.symbols.now) (events_seen met.items)) }
+    ensures events { IfOk result (λ _. events_seen walk.new.events.items ≡ events (tree_of (look_of look.now) (N.shown nodes.now).structure (value_of (N.shown nodes.now) value))) }
+    ensures spelled { IfOk result (λ _. EventsAreSpelled (length look.now.symbols.now) (events_seen walk.new.events.items)) }
 {
-    let mut walk = Walk {
-        done: HashSet::new(alloc),
-        events: Vec::new(alloc),
-        tasks: Vec::new(alloc),
-    };
-    walk.enter(alloc, look, nodes, value)?;
+    walk.done.clear();
+    walk.events.clear();
+    walk.tasks.clear();
+    walk.enter(look, nodes, value)?;
     while let Some(task) = walk.tasks.pop() {
-        walk.step(alloc, look, nodes, task)?;
+        walk.step(look, nodes, task)?;
     }
-    Ok(walk.events)
+    Ok(())
 }

@@ -73,12 +73,16 @@ impl Chart {
     pub fn new(alloc: Global, words: u32) -> Result<Chart, Memory>
         ensures { IfOk result (λ chart. (chart.words ≡ words) × (chart.edges ≡ [])) }
     {
-        let starting = NumberLists::empty(alloc, words as usize + 1)?;
-        let ending = NumberLists::empty(alloc, words as usize + 1)?;
+        let positions = words as usize + 1;
+        let starting = NumberLists::empty(alloc, positions)?;
+        let ending = NumberLists::empty(alloc, positions)?;
+        // most charts have more edges than this, and few have to be moved to a longer list more than twice
+        let edges = Vec::with_capacity(alloc, 4 * positions)?;
+        let counts = Vec::with_capacity(alloc, 4 * positions)?;
         Ok(Chart {
             words,
-            edges: Vec::new(alloc),
-            counts: Vec::new(alloc),
+            edges,
+            counts,
             starting,
             ending,
         })

@@ -1,33 +1,11 @@
 //! Tests of the public calls, and worked examples in tables.
-ghost use Rattle.std.specs.Prelude.{◌≡◌, ◌<◌, IfSome};
-ghost use Rattle.patr_chart.specs.Charted.{IsEdgeAfter, IsNext};
+ghost use Rattle.std.specs.Prelude.{◌≡◌, ◌<◌, IfSome, None};
+ghost use Rattle.patr_chart.specs.Charted.{IsEdgeAfter};
 
 use super::*;
 use patr_arena::Id;
 use std::alloc::{AllocError, Global};
 use std::test::Fail;
-
-/// The kind with one more daughter, or None where none is missing.
-fn next_kind(kind: EdgeKind) -> Option<EdgeKind>
-    ensures { IfSome result (λ next. IsNext kind next) }
-{
-    match kind {
-        EdgeKind::Rule {
-            rule,
-            variant,
-            item,
-            seen,
-            slots,
-        } if seen < slots => Some(EdgeKind::Rule {
-            rule,
-            variant,
-            item,
-            seen: seen + 1,
-            slots,
-        }),
-        _ => None,
-    }
-}
 
 /// The edge that two adjacent edges are together, or None where they are not adjacent.
 fn joined(chart: &Chart, active: u32, passive: u32) -> Option<Edge>
@@ -41,9 +19,8 @@ fn joined(chart: &Chart, active: u32, passive: u32) -> Option<Edge>
     if first.is_passive() || !second.is_passive() || first.end != second.start {
         return None;
     }
-    let kind = next_kind(first.kind)?;
     Some(Edge {
-        kind,
+        kind: first.kind.with_daughter(),
         start: first.start,
         end: second.end,
         back: Some(Back { active, passive }),
@@ -66,23 +43,32 @@ fn push(chart: &mut Chart, edge: Edge) -> Result<u32, Fail>
     Ok(number)
 }
 
+/// An edge without daughters.
+const fn alone(kind: EdgeKind, start: u32, end: u32) -> Edge
+    ensures kind { result.kind ≡ kind }
+    ensures span { (result.start ≡ start) × (result.end ≡ end) }
+    ensures back { result.back ≡ None }
+{
+    Edge {
+        kind,
+        start,
+        end,
+        back: None,
+        root: Value::Atom(Id(0)),
+        nodes: 0,
+        arcs: 0,
+        size: 1,
+    }
+}
+
 /// Pushes an entry's leaf over the word at this place.
 fn push_entry(chart: &mut Chart, entry: u32, start: u32) -> Result<u32, Fail>
     requires words { chart.old.words ≡ 3 }
     requires start { start < 3 }
     ensures { chart.new.words ≡ 3 }
 {
-    let edge = Edge {
-        kind: EdgeKind::Entry { entry, variant: 0 },
-        start,
-        end: start + 1,
-        back: None,
-        root: Value::Atom(Id(0)),
-        nodes: 0,
-        arcs: 0,
-        size: 1,
-    };
-    push(chart, edge)
+    let kind = EdgeKind::Entry { entry, variant: 0 };
+    push(chart, alone(kind, start, start + 1))
 }
 
 /// Pushes a rule with this many daughters, none of which is there, before the first word.
@@ -90,23 +76,14 @@ fn push_rule(chart: &mut Chart, rule: u32, variant: u32, slots: u32) -> Result<u
     requires { chart.old.words ≡ 3 }
     ensures { chart.new.words ≡ 3 }
 {
-    let edge = Edge {
-        kind: EdgeKind::Rule {
-            rule,
-            variant,
-            item: 0,
-            seen: 0,
-            slots,
-        },
-        start: 0,
-        end: 0,
-        back: None,
-        root: Value::Atom(Id(0)),
-        nodes: 0,
-        arcs: 0,
-        size: 1,
+    let kind = EdgeKind::Rule {
+        rule,
+        variant,
+        item: 0,
+        seen: 0,
+        slots,
     };
-    push(chart, edge)
+    push(chart, alone(kind, 0, 0))
 }
 
 /// The pairs of edges that are joined, in order: a noun phrase of the first two words, a sentence of it and the third, and

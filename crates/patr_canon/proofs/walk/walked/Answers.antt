@@ -11,7 +11,7 @@ pub loop-task-init : goal.loop-task-init
 loop-task-init g c =
     let v = g.N.Nodes.shown c.args.nodes.now in
     let s = g.met.N.Nodes.lawful c.args.nodes.now in
-    c.in_ok-enter.ensures.walking _ (enter_first v s c.args.look.now c.new.result c.args.value c.new-2.result.items c.new-3.result.items (set_none c.new.result c.new.ensures.empty) c.new-2.ensures.items c.new-3.ensures.items)
+    c.in_ok-enter.ensures.walking _ (enter_first v s c.args.look.now c.clear.new.self c.args.value c.clear-2.new.self.items c.clear-3.new.self.items (set_none c.clear.new.self c.clear.ensures.empty) c.clear-2.ensures.items c.clear-3.ensures.items)
 
 pub step-requires-clause-task : goal.step-requires-clause-task
 step-requires-clause-task g c =

@@ -17,8 +17,8 @@ returns g c =
     let v = g.N.Nodes.shown c.args.nodes.now in
     let s = g.met.N.Nodes.lawful c.args.nodes.now in
     record {
-      walking = λ total w. enter_new v s c.args.look.now total c.args.self.now.done c.args.at c.args.node c.in_ok-arcs.arcs.items c.args.self.now.events.items c.push.new.self.items c.args.self.now.tasks.items c.push_arcs.new.tasks.items
-          c.requires.at c.requires.node c.requires.new c.requires.spelled c.in_ok-arcs.ensures.order c.in_ok-arcs.ensures.held c.in_ok-push.ensures.items
-          (with_close c.in_ok-arcs.arcs.items c.args.node c.args.self.now.tasks.items c.push-2.new.self.items c.push_arcs.new.tasks.items c.in_ok-push-2.ensures.items c.in_ok-push_arcs.ensures) w;
+      walking = λ total w. enter_new v s c.args.look.now total c.args.self.now.done c.args.at c.args.node c.arcs_in_order.new.arcs.items c.args.self.now.events.items c.push.new.self.items c.args.self.now.tasks.items c.push_arcs.new.tasks.items
+          c.requires.at c.requires.node c.requires.new c.requires.spelled c.in_ok-arcs_in_order.ensures.order c.in_ok-arcs_in_order.ensures.held c.in_ok-push.ensures.items
+          (with_close c.arcs_in_order.new.arcs.items c.args.node c.args.self.now.tasks.items c.push-2.new.self.items c.push_arcs.new.tasks.items c.in_ok-push-2.ensures.items c.in_ok-push_arcs.ensures) w;
       grows = less _ _ (one_longer c.args.self.now.events.items c.push.new.self.items _ c.in_ok-push.ensures.items);
     }

@@ -1,7 +1,14 @@
-use Rattle.std.proofs.Common.{sym, ◌∙◌}
-use Rattle.patr_canon.proofs.Names.{events_seen, met_again}
-use Rattle.patr_canon.proofs.Numbering.{numbered_added, numbered_kept, numbered_left}
-use Rattle.patr_canon.proofs.numbers.numbered.Goals as goal
+use Rattle.std.proofs.Common.{refl, sym, ◌∙◌}
+use Rattle.patr_canon.proofs.Names.{events_seen, met_again, opened}
+use Rattle.patr_canon.proofs.Numbering.{none_kept, numbered_added, numbered_kept, numbered_left}
+use Rattle.patr_arena.proofs.Maps.{nothing_waits}
+use Rattle.patr_canon.proofs.Walks.{set_none}
+use Rattle.patr_canon.proofs.numbers.number_nodes.Goals as goal
+
+pub returns-then-is_empty : goal.returns-then-is_empty
+returns-then-is_empty c =
+    let none = nothing_waits c.args.again.now.keys (sym (c.if-is_empty.ensures.0 refl)) in
+    c.clear.ensures.empty ∙ sym (none_kept (met_again (events_seen c.args.events.now)) (opened (events_seen c.args.events.now)) (λ m. sym (c.requires.again m) ∙ set_none c.args.again.now none m))
 
 pub loop-event-preserved-in_default : goal.loop-event-preserved-in_default
 loop-event-preserved-in_default c =

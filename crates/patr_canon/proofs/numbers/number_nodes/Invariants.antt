@@ -1,6 +1,6 @@
 use Rattle.std.proofs.Common.{◌≡◌, take}
 use Rattle.patr_canon.proofs.Names.{events_seen, kept, met_again, opened}
-use Rattle.patr_canon.proofs.numbers.numbered.Given as goal
+use Rattle.patr_canon.proofs.numbers.number_nodes.Given as goal
 
 -- the nodes with a number so far
 abbrev pub invariant-loop-event : goal.invariant-loop-event
