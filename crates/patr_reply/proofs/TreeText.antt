@@ -27,9 +27,9 @@ four a s p c rest = sym (simp append_assoc)
 pub three : (a b c rest : List ℕ) → a ++ (b ++ (c ++ rest)) ≡ ((a ++ b) ++ c) ++ rest
 three a b c rest = sym (simp append_assoc)
 
--- the parts of a line, one after another
-pub line_written : (old a b number text : List ℕ) → a ≡ old ++ (number ++ codes " ") → b ≡ a ++ text → b ++ 10 ∷ [] ≡ old ++ ((number ++ codes " " ++ text) ++ 10 ∷ [])
-line_written old a b number text h i = simp (i, h, append_assoc)
+-- a line that begins with a mark
+pub line_written : (old a b mark text : List ℕ) → a ≡ old ++ mark → b ≡ a ++ text → b ++ 10 ∷ [] ≡ old ++ ((mark ++ text) ++ 10 ∷ [])
+line_written old a b mark text h i = simp (i, h, append_assoc)
 
 -- a number's text, by the table
 pub text_of : (N : Numbering) (table : List (List ℕ)) → AgreesWith N table → (i : ℕ) (t : List ℕ) → slice_get table i ≡ Some t → N.text i ≡ t

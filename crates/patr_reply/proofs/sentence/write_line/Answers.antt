@@ -1,4 +1,4 @@
-use Rattle.std.proofs.Common.{◌≡◌, ◌++◌, ◌∷◌, [], List, ℕ, codes, decimal}
+use Rattle.std.proofs.Common.{◌≡◌, ◌++◌, ◌∷◌, [], List, ℕ, codes, decimal, ap, ◌∙◌, append_assoc}
 use Rattle.std.specs.String.{string_bytes}
 use Rattle.patr_lists.proofs.Results.{if_ok_is}
 use lib.Utf8.{encode}
@@ -18,4 +18,5 @@ returns c = λ names agrees.
     let text : List ℕ = tree_text (look_by names) (rules_of c.args.library.now) (tree c.args.chart.now.edges c.args.number) in
     let begun : string_bytes c.write.new.self ≡ old ++ (decimal c.args.place ++ codes " ") = c.in_ok-write.ensures.bytes in
     if_ok_is c.push.result (string_bytes c.push.new.self) (before ++ 10 ∷ []) before (old ++ line (decimal c.args.place ++ codes " " ++ text)) c.push.ensures.bytes
-    (line_written old (string_bytes c.write.new.self) before (decimal c.args.place) text begun (c.in_ok-write_tree.ensures names agrees))
+    (line_written old (string_bytes c.write.new.self) before (decimal c.args.place ++ codes " ") text begun (c.in_ok-write_tree.ensures names agrees)
+    ∙ ap (λ t. old ++ line t) (append_assoc (decimal c.args.place) (codes " ") text))
