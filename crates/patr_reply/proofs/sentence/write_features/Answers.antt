@@ -1,11 +1,6 @@
 use Rattle.std.proofs.Common.{◌++◌, ◌∷◌, [], List, ℕ, codes}
-use Rattle.std.specs.String.{string_bytes}
-use Rattle.patr_lists.proofs.Results.{if_ok_is}
+use Rattle.patr_reply.proofs.Names.{canonical, if_ok_is, line, string_bytes, table_look, value_of}
 use lib.Utf8.{encode}
-use Rattle.patr_model.specs.Session.{line}
-use Rattle.patr_model.specs.Table.{table_look}
-use Rattle.patr_model.specs.Text.{canonical}
-use Rattle.patr_arena.specs.Shown.{value_of}
 use Rattle.patr_reply.proofs.TreeText.{line_written}
 use Rattle.patr_reply.proofs.sentence.write_features.Goals as goal
 

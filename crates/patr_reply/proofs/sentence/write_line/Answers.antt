@@ -1,12 +1,6 @@
 use Rattle.std.proofs.Common.{◌≡◌, ◌++◌, ◌∷◌, [], List, ℕ, codes, decimal, ap, ◌∙◌, append_assoc}
-use Rattle.std.specs.String.{string_bytes}
-use Rattle.patr_lists.proofs.Results.{if_ok_is}
+use Rattle.patr_reply.proofs.Names.{if_ok_is, line, look_by, rules_of, string_bytes, tree, tree_text}
 use lib.Utf8.{encode}
-use Rattle.patr_model.specs.Text.{tree_text}
-use Rattle.patr_model.specs.Session.{line}
-use Rattle.patr_chart.specs.Charted.{tree}
-use Rattle.patr_library.specs.Stored.{rules_of}
-use Rattle.patr_reply.specs.Lines.{look_by}
 use Rattle.patr_reply.proofs.TreeText.{line_written}
 use Rattle.patr_reply.proofs.sentence.write_line.Goals as goal
 
