@@ -103,10 +103,11 @@ fn sample(alloc: Global) -> Result<PlainArena, Memory>
 }
 
 /// The text of a node of the sample.
-fn text(
+fn text<'a>(
     alloc: Global,
-    symbols: &Symbols,
-    order: &[Id],
+    room: &mut TextRoom<'a>,
+    symbols: &'a Symbols,
+    order: &'a [Id],
     arena: &PlainArena,
     offset: u32,
 ) -> Result<String, Memory>
@@ -116,8 +117,16 @@ fn text(
     requires symbols { 44 ≤ length symbols.now }
 {
     let value = Value::Node(Addr { block: 0, offset });
-    canonical(alloc, symbols, order, arena, value)
+    let mut text = String::new(alloc);
+    write_canonical(alloc, room, symbols, order, arena, value, &mut text)?;
+    Ok(text)
 }
+
+/// The usual order of attributes, by their texts alone.
+const BY_TEXT: &[Id] = &[];
+
+/// An order in which some attributes come first.
+const C_FIRST: &[Id] = &[C, B, C];
 
 #[test]
 fn values_have_texts(rt: HostRuntime) -> Result<(), Fail> {
@@ -125,37 +134,20 @@ fn values_have_texts(rt: HostRuntime) -> Result<(), Fail> {
     let symbols = symbols(alloc)?;
     assert!(rt; symbols.len() >= 44);
     let arena = sample(alloc)?;
-    for (offset, wanted) in [
-        (0, "[b: x]"),
-        (1, "[a: #1 [b: x] c: #1]"),
-        (2, "[]"),
-        (3, "[a: [a: #1 [b: x] c: #1] b: []]"),
-        (4, "[a: #1 [b: x] b: [a: #1 c: #1]]"),
-        (5, "[a: #1 [a: #2 [b: x] c: #2] c: #1]"),
-        (6, "[b: \"two words\" c: \"say \\\"hi\\\"\"]"),
+    let mut room = TextRoom::new(alloc);
+    for (order, offset, wanted) in [
+        (BY_TEXT, 0, "[b: x]"),
+        (BY_TEXT, 1, "[a: #1 [b: x] c: #1]"),
+        (BY_TEXT, 2, "[]"),
+        (BY_TEXT, 3, "[a: [a: #1 [b: x] c: #1] b: []]"),
+        (BY_TEXT, 4, "[a: #1 [b: x] b: [a: #1 c: #1]]"),
+        (BY_TEXT, 5, "[a: #1 [a: #2 [b: x] c: #2] c: #1]"),
+        (BY_TEXT, 6, "[b: \"two words\" c: \"say \\\"hi\\\"\"]"),
+        (C_FIRST, 1, "[c: #1 [b: x] a: #1]"),
+        (C_FIRST, 3, "[b: [] a: [c: #1 [b: x] a: #1]]"),
     ] {
-        assert_eq!(rt;
-            text(alloc, &symbols, &[], &arena, offset)?.as_str(),
-            wanted
-        );
-    }
-    Ok(())
-}
-
-#[test]
-fn attributes_of_the_order_come_first(rt: HostRuntime) -> Result<(), Fail> {
-    let alloc = rt.alloc();
-    let symbols = symbols(alloc)?;
-    assert!(rt; symbols.len() >= 44);
-    let arena = sample(alloc)?;
-    for (offset, wanted) in [
-        (1, "[c: #1 [b: x] a: #1]"),
-        (3, "[b: [] a: [c: #1 [b: x] a: #1]]"),
-    ] {
-        assert_eq!(rt;
-            text(alloc, &symbols, &[C, B, C], &arena, offset)?.as_str(),
-            wanted
-        );
+        let text = text(alloc, &mut room, &symbols, order, &arena, offset)?;
+        assert_eq!(rt; text.as_str(), wanted);
     }
     Ok(())
 }

@@ -1,16 +1,7 @@
 -- The indexes stay right.
 use Rattle.std.proofs.Common.{◌≡◌, ◌⊎◌, inl, inr, ℕ, suc, ◌<◌, ◌≤◌, ◌^◌, Bool, true, false, cond, nat_eq, List, [], ◌∷◌, ◌++◌, length, take, get_or, Some, slice_get, refl, sym, ap, ◌∙◌, arith, subst, ltb-true, ltb-false, nat_lt, length-append, length-set}
-use Rattle.std.proofs.lemmas.List.{take-append-le, get_or_append_left}
-use Rattle.std.proofs.lemmas.Option.{slice_get-get_or}
-use Rattle.std.proofs.Math.Seq.{take-append_seam, get_or-append_seam}
-use Rattle.patr_lists.proofs.Tables.{index_kept, places_length, index_added}
-use Rattle.patr_lists.specs.Numbers.{places}
+use Rattle.patr_chart.proofs.Names.{AreEdges, Edge, IsEdgeAfter, IsEntered, ends_at, get_cases, get_or-append_seam, get_or_append_left, index_added, index_kept, is_partner, is_passive, neighbours, partners, places, places_length, slice_get-get_or, starts_at, take-append-le, take-append_seam}
 use Rattle.patr_lists.specs.Tables.{Table, with_number}
-use Rattle.patr_lists.proofs.Places.{get_cases}
-use Rattle.patr_chart.specs.declared.edge.Edge.{Edge}
-use Rattle.patr_chart.specs.Edges.{is_passive}
-use Rattle.patr_chart.specs.Lists.{neighbours, IsEntered}
-use Rattle.patr_chart.specs.Charted.{starts_at, ends_at, is_partner, partners, IsEdgeAfter, AreEdges}
 use Rattle.patr_chart.specs.Kept.{IsIndexed}
 use Rattle.patr_chart.proofs.Places.{partners_last, partners_before, found}
 

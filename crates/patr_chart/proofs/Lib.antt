@@ -6,3 +6,4 @@ pub mod Passing
 pub mod Partners
 pub mod Shown
 pub mod Ordered
+pub mod Names

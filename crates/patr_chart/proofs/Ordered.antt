@@ -1,12 +1,11 @@
 -- Lists of nodes compare as keys are ordered.
 use Rattle.std.proofs.Common.{◌≡◌, inl, inr, ℕ, Bool, true, false, cond, nat_eq, nat_lt, List, [], ◌∷◌, map, refl, sym, ap, ◌∙◌, arith, subst, eqb-true, eq-eqb, ltb-true, ltb-false}
+use Rattle.patr_chart.proofs.Names.{KeyItem, item_of}
 use Rattle.std.specs.declared.cmp.Ordering.{Ordering}
 use Rattle.std.specs.declared.cmp.Ordering.TheVariants.{Less, Equal, Greater}
 use Rattle.std.specs.Ordering.{nat_cmp, ordering_then}
 use Rattle.std.specs.Cmp.Lexicographic.{slice_cmp}
 use Rattle.patr_model.specs.Session.{numbers}
-use Rattle.patr_chart.specs.declared.key.KeyItem.{KeyItem}
-use Rattle.patr_chart.specs.Edges.{item_of}
 use Rattle.patr_chart.specs.Orders.{IsOrderOf, AreOrdered}
 
 -- what the order of nodes comes to

@@ -1,12 +1,6 @@
 -- The partners of an edge are the earlier edges that are adjacent to it.
 use Rattle.std.proofs.Common.{◌≡◌, inl, inr, ℕ, zero, suc, ◌<◌, Bool, true, false, cond, nat_eq, eqb-true, eq-eqb, List, [], ◌∷◌, take, Some, slice_get, refl, sym, ap, ◌∙◌, arith, subst, zero-add}
-use Rattle.std.specs.List.{Contains}
-use Rattle.std.specs.List.Sorted.{IsStrictlyIncreasing}
-use Rattle.patr_lists.specs.Numbers.{places}
-use Rattle.patr_chart.specs.declared.edge.Edge.{Edge}
-use Rattle.patr_chart.specs.Edges.{is_passive}
-use Rattle.patr_chart.specs.Charted.{starts_at, ends_at, is_partner, partners_of, partners}
-use Rattle.patr_chart.specs.Laws.{IsPartner, IsPartnerBefore, HasPartners}
+use Rattle.patr_chart.proofs.Names.{Contains, Edge, HasPartners, IsPartner, IsPartnerBefore, IsStrictlyIncreasing, ends_at, is_partner, is_passive, partners, partners_of, places, starts_at}
 use Rattle.patr_chart.proofs.Passing.{places_pass, passes_placed, places_rise}
 use Rattle.patr_chart.proofs.Trees.{get_taken}
 

@@ -1,9 +1,6 @@
 -- The numbers of the members of a list that pass a test: which they are, and that they rise.
 use Rattle.std.proofs.Common.{◌≡◌, ◌⊎◌, inl, inr, ℕ, zero, suc, ◌+◌, ◌<◌, ◌≤◌, Bool, true, false, cond, List, [], ◌∷◌, length, get_or, Some, slice_get, refl, sym, ap, ◌∙◌, arith, subst}
-use Rattle.std.specs.List.{Contains}
-use Rattle.std.specs.List.Sorted.{IsStrictlyIncreasing}
-use Rattle.patr_lists.specs.Numbers.{places}
-use Rattle.patr_model.proofs.Maps.{some_inj}
+use Rattle.patr_chart.proofs.Names.{Contains, IsStrictlyIncreasing, places, some_inj}
 
 contains_first : {X : Type 0} (x : X) (xs : List X) → Contains (x ∷ xs) x
 contains_first x xs = (0, omega arith, refl)

@@ -1,12 +1,6 @@
 -- The lists by which partners are found.
 use Rattle.std.proofs.Common.{◌≡◌, ℕ, ◌+◌, ◌<◌, List, [], ◌∷◌, ◌++◌, length, take, Option, Some, None, slice_get, refl, sym, ap, ◌∙◌, arith}
-use Rattle.std.proofs.lemmas.List.{take-append-le}
-use Rattle.std.proofs.Math.Seq.{take-append_seam}
-use Rattle.patr_lists.proofs.Tables.{front}
-use Rattle.patr_lists.specs.Numbers.{places}
-use Rattle.patr_lists.proofs.Places.{get_last, get_before}
-use Rattle.patr_chart.specs.declared.edge.Edge.{Edge}
-use Rattle.patr_chart.specs.Charted.{is_partner, partners_in, partners_of, partners}
+use Rattle.patr_chart.proofs.Names.{Edge, front, get_before, get_last, is_partner, partners, partners_in, partners_of, places, take-append-le, take-append_seam}
 
 pub partners_last : (es : List Edge) (e : Edge) → partners (es ++ e ∷ []) (length es) ≡ partners_in es e
 partners_last es e = ap (λ o. partners_of (es ++ e ∷ []) (length es) o) (get_last es e) ∙ ap (λ l. partners_in l e) (take-append_seam es (e ∷ []))

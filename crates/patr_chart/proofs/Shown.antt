@@ -1,15 +1,8 @@
 -- The derivation of an edge shows what its kind says.
 use Rattle.std.proofs.Common.{◌≡◌, ℕ, zero, suc, ◌<◌, Bool, true, false, not, ltb, ltb-true, ltb-false, List, length, take, Option, Some, None, slice_get, refl, sym, ap, ◌∙◌, arith, subst}
-use Rattle.patr_model.specs.Derivation.{Rules, RuleVariant, Derivation, Leaf, Begin, Extend, root_rule, rule_variant, seen, IsPartial, IsComplete}
+use Rattle.patr_chart.proofs.Names.{AreAdjacent, AreEdges, Back, Begin, ComesFrom, Derivation, Edge, EdgeKind, Entry, Extend, HasOrigin, IsAlone, IsComplete, IsJudged, IsNext, IsOfKind, IsPartial, IsTree, IsTreeOf, KindFits, KindsFit, Leaf, Rule, RuleVariant, Rules, alone, is_passive, kind_passive, root_rule, rule_variant, seen, tree}
 use Rattle.patr_model.specs.Rounds.{IsAdjacent}
 use Rattle.patr_model.proofs.Steps.{partial_or_complete}
-use Rattle.patr_chart.specs.declared.edge.EdgeKind.{EdgeKind}
-use Rattle.patr_chart.specs.declared.edge.EdgeKind.TheVariants.{Entry, Rule}
-use Rattle.patr_chart.specs.declared.edge.Back.{Back}
-use Rattle.patr_chart.specs.declared.edge.Edge.{Edge}
-use Rattle.patr_chart.specs.Edges.{kind_passive, is_passive, AreAdjacent}
-use Rattle.patr_chart.specs.Charted.{IsNext, IsAlone, HasOrigin, AreEdges, alone, tree}
-use Rattle.patr_chart.specs.Laws.{IsTree, IsOfKind, ComesFrom, IsTreeOf, KindFits, KindsFit, IsJudged}
 use Rattle.patr_chart.proofs.Trees.{tree_alone, tree_longer, tree_of}
 
 alone_kind : (g : Rules) (k : EdgeKind) (e : Edge) → IsAlone k e → IsOfKind g k (alone k e)

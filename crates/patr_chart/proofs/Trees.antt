@@ -1,16 +1,6 @@
 -- The derivation of an edge, by those of the edges that it was made of.
 use Rattle.std.proofs.Common.{◌≡◌, ℕ, zero, suc, ◌+◌, ◌<◌, ◌≤◌, List, [], ◌∷◌, ◌++◌, length, take, drop, get_or, Option, Some, None, slice_get, refl, sym, ap, ◌∙◌, arith, subst, length-append}
-use Rattle.std.proofs.lemmas.List.{length-take-le, get_or_append_left, take-append-drop}
-use Rattle.std.proofs.Math.Seq.{get_or-append_seam}
-use Rattle.std.proofs.lemmas.Option.{slice_get_within}
-use Rattle.patr_model.specs.Derivation.{Derivation, Begin, Extend, root_item, start, end}
-use Rattle.patr_model.proofs.Maps.{some_inj}
-use Rattle.patr_chart.specs.declared.edge.EdgeKind.{EdgeKind}
-use Rattle.patr_chart.specs.declared.edge.EdgeKind.TheVariants.{Entry, Rule}
-use Rattle.patr_chart.specs.declared.edge.Back.{Back}
-use Rattle.patr_chart.specs.declared.edge.Edge.{Edge}
-use Rattle.patr_chart.specs.Edges.{kind_item}
-use Rattle.patr_chart.specs.Charted.{IsNext, IsAlone, HasOrigin, IsMadeOf, AreEdges, alone, derivation_at, derived_by, derived, derivations_from, derivations, tree}
+use Rattle.patr_chart.proofs.Names.{AreEdges, Back, Begin, Derivation, Edge, EdgeKind, Entry, Extend, HasOrigin, IsAlone, IsMadeOf, IsNext, Rule, alone, derivation_at, derivations, derivations_from, derived, derived_by, end, get_or-append_seam, get_or_append_left, kind_item, length-take-le, root_item, slice_get_within, some_inj, start, take-append-drop, tree}
 
 pub get_taken : (es : List Edge) (n k : ℕ) (e : Edge) → slice_get (take n es) k ≡ Some e → (k < n) × (slice_get es k ≡ Some e)
 get_taken es zero k e h = cc

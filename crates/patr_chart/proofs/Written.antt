@@ -1,17 +1,6 @@
 -- One step of writing a key.
 use Rattle.std.proofs.Common.{◌≡◌, ℕ, ◌+◌, List, [], ◌∷◌, ◌++◌, length, map, reverse, Some, None, slice_get, refl, sym, ap, ◌∙◌, arith, append_assoc, append-nil}
-use Rattle.std.proofs.lemmas.List.{reverse-append}
-use Rattle.std.proofs.lemmas.Option.{slice_get_within}
-use Rattle.patr_model.specs.Derivation.{key}
-use Rattle.patr_chart.specs.declared.edge.EdgeKind.{EdgeKind}
-use Rattle.patr_chart.specs.declared.edge.EdgeKind.TheVariants.{Entry, Rule}
-use Rattle.patr_chart.specs.declared.edge.Back.{Back}
-use Rattle.patr_chart.specs.declared.edge.Edge.{Edge}
-use Rattle.patr_chart.specs.declared.key.KeyItem.{KeyItem}
-use Rattle.patr_chart.specs.declared.chart.Pending.{Pending}
-use Rattle.patr_chart.specs.Edges.{item_of, kind_item}
-use Rattle.patr_chart.specs.Charted.{alone, tree, AreEdges}
-use Rattle.patr_chart.specs.Pending.{tree_key, pending_keys, whole_key, weight, weights, AreHeld, IsStep}
+use Rattle.patr_chart.proofs.Names.{AreEdges, AreHeld, Back, Edge, EdgeKind, Entry, IsStep, KeyItem, Pending, Rule, alone, item_of, key, kind_item, pending_keys, reverse-append, slice_get_within, tree, tree_key, weight, weights, whole_key}
 use Rattle.patr_chart.proofs.Trees.{tree_alone, tree_longer, tree_of}
 
 keys_append : (es : List Edge) (ps qs : List Pending) → pending_keys es (ps ++ qs) ≡ pending_keys es ps ++ pending_keys es qs

@@ -1,24 +1,11 @@
 -- The variants of a library name no other symbols than those that the library holds.
 use Rattle.std.proofs.Common.{◌≡◌, ℕ, zero, suc, ◌<◌, ◌≤◌, Bool, true, nat_lt, lt-ltb, ltb-true, List, [], ◌∷◌, ◌++◌, map, Option, Some, None, IfSome, option_map, option_and_then, filter_map, slice_get, refl, sym, ap, ◌∙◌, subst, arith}
-use Rattle.std.specs.List.{AllByRecursion, cons_option}
+use Rattle.patr_reply.proofs.Names.{AllByRecursion, AllIn, AllInRows, AllPass, AreHeldBy, AreNamed, AtomText, Done, EntryIsHeld, EntryOf, EntryVariant, Equates, Equation, EquationIsHeld, EquationText, FeatureIsHeld, FeatureText, Id, MayBeBelow, Names, None', OfPath, One, OneOf, Optional, Or, Passes, PathOf, Row, Rows, RuleIsHeld, RuleText, RuleVariant, Stored, SymbolIsHeld, SymbolText, Term, TermIsHeld, TermPasses, TermText, all_append, all_at, all_flat, all_map, and_then_some, category_equations, cons_option, entries_of, entry_seen, entry_variant, entry_variant_of, entry_variants, facts_of, feature_equation, feature_variants, gloss_fact, grammar_of, head_slot, keys, number, placed_equation, placed_term, products, rule_variant, rule_variant_of, rule_variants, rules_of, single, slice_get-map, some_inj, variants, variants_of}
 use Rattle.std.specs.Option as options
-use Rattle.std.proofs.lemmas.Option.{slice_get-map}
-use Rattle.patr_lists.proofs.Alls.{all_at, all_append, all_map, all_flat}
-use Rattle.patr_model.specs.Equation.{Term, PathOf, Equation}
-use Rattle.patr_model.specs.Derivation.{RuleVariant, EntryVariant, entry_variant, rule_variant}
-use Rattle.patr_model.specs.Grammar.{Row, Rows, Done, One, OneOf, Optional, None', Or, products, variants, variants_of, single}
 use Rattle.patr_model.specs.Plain.{stated}
-use Rattle.patr_model.specs.Productions.{SymbolText, TermText, AtomText, OfPath, EquationText, FeatureText, Equates, Names, RuleText}
-use Rattle.patr_model.specs.LexiconText.{EntryOf}
-use Rattle.patr_model.specs.Build.{head_slot, placed_term, placed_equation, category_equations, rule_variant_of, rule_variants, feature_equation, feature_variants, gloss_fact, facts_of, entry_variant_of, entry_variants}
-use Rattle.patr_model.proofs.Maps.{some_inj, and_then_some}
 use Rattle.patr_model.proofs.StatedCategories.{everything, every_rule, every_entry}
-use Rattle.patr_text.specs.declared.symbols.Id.{Id}
 use Rattle.patr_lexicon.specs.declared.lexicon.Entry as code
-use Rattle.patr_lexicon.specs.Seen.{entry_seen}
-use Rattle.patr_library.specs.Stored.{Stored, keys, number, grammar_of, entries_of, rules_of}
-use Rattle.patr_reply.specs.Naming.{AllPass, TermPasses, Passes, AreNamed}
-use Rattle.patr_reply.specs.Held.{AllIn, AllInRows, IsBelow, MayBeBelow, SymbolIsHeld, TermIsHeld, EquationIsHeld, FeatureIsHeld, RuleIsHeld, EntryIsHeld, AreHeldBy}
+use Rattle.patr_reply.specs.Held.{IsBelow}
 
 -- ---- rows
 

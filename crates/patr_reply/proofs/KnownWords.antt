@@ -1,28 +1,11 @@
 -- Words by the table, and by a numbering that agrees with it.
 use Rattle.std.proofs.Common.{◌≡◌, ℕ, ◌≤◌, Bool, List, [], ◌∷◌, ◌++◌, length, map, Some, slice_get, option_and_then, codes, decimal, refl, sym, ap, ◌∙◌, subst, append-nil}
-use Rattle.std.specs.List.{AllByRecursion}
-use Rattle.std.specs.Option.{option_map}
-use Rattle.std.proofs.lemmas.Option.{slice_get-map}
-use Rattle.patr_lists.proofs.Places.{get_there}
-use Rattle.patr_model.specs.Equation.{Equation}
-use Rattle.patr_model.specs.Derivation.{EntryVariant}
-use Rattle.patr_model.specs.Grammar.{variants}
-use Rattle.patr_model.specs.Build.{feature_equation, feature_variants, entry_variant_of, entry_variants}
-use Rattle.patr_model.specs.Chart.{HasMoreThan}
-use Rattle.patr_model.specs.Solved.{solved}
+use Rattle.patr_reply.proofs.Names.{AgreesWith, AllByRecursion, AreHeldBy, AreNumbers, EntryVariant, Equation, Extends, Found, HasMoreThan, IsFirstUnknown, IsKnown, IsParsed, IsSentenceReply, ListsAll, Numbering, Stored, analyses, entries_of, entry_seen, entry_variant_of, entry_variants, equation_seen, feature_equation, feature_variants, features_seen, get_there, grounds, keys, line, number, option_map, rules_of, slice_get-map, solved, state_of, too_many, unknown, variants}
 use Rattle.patr_model.specs.Session as session
-use Rattle.patr_model.specs.Session.{Numbering, AgreesWith, ListsAll, IsSentenceReply, line, unknown, too_many, analyses}
-use Rattle.patr_text.specs.Texts.{first_texts, Extends}
+use Rattle.patr_text.specs.Texts.{first_texts}
 use Rattle.patr_grammar.specs.declared.grammar.Element.{Element}
 use Rattle.patr_grammar.specs.declared.grammar.Element.TheVariants.{Equation as Written}
-use Rattle.patr_grammar.specs.Reading.{equation_seen, features_seen}
 use Rattle.patr_lexicon.specs.declared.lexicon.Entry.{Entry}
-use Rattle.patr_lexicon.specs.Seen.{entry_seen}
-use Rattle.patr_library.specs.Stored.{Stored, keys, number, entries_of, rules_of}
-use Rattle.patr_parse.specs.Found.{Found}
-use Rattle.patr_parse.specs.Sentences.{AreNumbers, IsKnown, IsParsed, IsFirstUnknown}
-use Rattle.patr_reply.specs.Held.{AreHeldBy}
-use Rattle.patr_reply.specs.Lines.{grounds, state_of}
 use Rattle.patr_reply.proofs.Holding.{entry_from, entry_below}
 use Rattle.patr_reply.proofs.Listing.{cat_is}
 

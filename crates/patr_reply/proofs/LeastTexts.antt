@@ -1,12 +1,10 @@
 -- A value's canonical text depends on the texts of the symbols to which its paths lead, and on no other.
 use Rattle.std.proofs.Common.{◌≡◌, ℕ, Bool, true, List, [], ◌∷◌, ◌++◌, Some, refl}
-use Rattle.patr_model.specs.Structure.{Value, Atom, Node, Structure, arcs_of, arc, at, IsStructure, IsValue}
-use Rattle.patr_model.specs.Text.{Look, canonical}
+use Rattle.patr_reply.proofs.Names.{Atom, HasNamed, IsStructure, IsValue, Look, Node, Structure, Value, arc, arcs_of, at, canonical}
 use Rattle.patr_model.specs.Laws.{GiveOneText, OfValue}
 use Rattle.patr_model.proofs.Alike.{more}
 use Rattle.patr_model.proofs.Local.{local_of}
 use Rattle.patr_model.proofs.Shared.{all_along}
-use Rattle.patr_reply.specs.Naming.{HasNamed}
 
 -- two looks that agree on what paths from a value lead to write one text of it
 module _ (test : ℕ → Bool) (M : Structure) (m : Value) (is : IsStructure M) (held : IsValue M m) (named : HasNamed test M m) (l k : Look) (order : l.order ≡ k.order) (texts : (c : ℕ) → test c ≡ true → l.text c ≡ k.text c) where

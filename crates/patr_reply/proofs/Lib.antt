@@ -9,3 +9,4 @@ pub mod Listing
 pub mod KnownWords
 pub mod Words
 pub mod Reading
+pub mod Names

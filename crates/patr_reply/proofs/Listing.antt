@@ -1,24 +1,7 @@
 -- The reply to a sentence, by its parts.
 use Rattle.std.proofs.Common.{◌≡◌, ℕ, suc, ◌+◌, ◌<◌, Bool, true, false, List, [], ◌∷◌, ◌++◌, length, map, take, get_or, slice_get, codes, decimal, refl, sym, ap, ◌∙◌, subst, arith, append_assoc, append-nil, ltb-true}
-use Rattle.std.specs.List.{AllByRecursion}
-use Rattle.std.proofs.lemmas.List.{length-map, length-take-le, take_more}
-use Rattle.patr_lists.proofs.Places.{get_there}
-use Rattle.patr_model.specs.Derivation.{Rules}
-use Rattle.patr_model.specs.Text.{Look, canonical}
-use Rattle.patr_model.specs.Table.{table_text, table_look, text_or, total, zeros}
-use Rattle.patr_model.specs.Session.{Numbering, AgreesWith, Grounds, line, cat_of, IsLeastText, ListsAnalyses, CountsEdges, ListsAll}
-use Rattle.patr_model.specs.Chart.{IsAnalysis, IsChart}
-use Rattle.patr_model.specs.Solved.{solved}
-use Rattle.patr_text.specs.Texts.{first_texts, Extends}
-use Rattle.patr_arena.specs.Shown.{Shown, value_of}
-use Rattle.patr_chart.specs.declared.edge.Edge.{Edge}
-use Rattle.patr_chart.specs.Charted.{derivations, tree}
-use Rattle.patr_chart.proofs.Trees.{from_length}
-use Rattle.patr_library.specs.Stored.{Stored, keys, rules_of}
-use Rattle.patr_parse.specs.Found.{Found, AreSound, IsSound}
-use Rattle.patr_reply.specs.Held.{AreHeldBy}
-use Rattle.patr_reply.specs.Lines.{grounds, look_by, state_of, tree_line, value_line, analysis_text, analysis_lines, listing, count_line}
-use Rattle.patr_reply.specs.Sources.{edge_value, value_at, IsReady}
+use Rattle.patr_reply.proofs.Names.{AgreesWith, AllByRecursion, AreHeldBy, AreSound, CountsEdges, Edge, Extends, Found, Grounds, IsAnalysis, IsChart, IsLeastText, IsReady, IsSound, ListsAll, ListsAnalyses, Look, Numbering, Rules, Shown, Stored, analysis_lines, analysis_text, canonical, cat_of, count_line, derivations, edge_value, from_length, get_there, grounds, keys, length-map, length-take-le, line, listing, look_by, rules_of, solved, state_of, table_look, table_text, take_more, text_or, total, tree, tree_line, value_at, value_line, value_of, zeros}
+use Rattle.patr_text.specs.Texts.{first_texts}
 use Rattle.patr_reply.proofs.Holding.{below}
 use Rattle.patr_reply.proofs.LeastTexts.{named_text}
 use Rattle.patr_reply.proofs.Sounding.{table_long, named_below, all_ready}

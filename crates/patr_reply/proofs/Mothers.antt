@@ -1,13 +1,7 @@
 -- The mother of a rule's variant, by the library's item.
 use Rattle.std.proofs.Common.{◌≡◌, ℕ, ◌<◌, Some, slice_get, sym, ap, ◌∙◌, subst}
-use Rattle.std.proofs.lemmas.Option.{get_or_from_slice_get}
-use Rattle.patr_lists.proofs.Alls.{all_at}
-use Rattle.patr_model.specs.Derivation.{RuleVariant, rule_variant}
-use Rattle.patr_model.specs.Text.{mother_category}
-use Rattle.patr_model.proofs.Maps.{some_inj}
+use Rattle.patr_reply.proofs.Names.{IsRuleItem, IsRuleOf, IsStored, RuleVariant, Stored, all_at, get_or_from_slice_get, mother_category, rule_variant, rules_of, some_inj}
 use Rattle.patr_library.specs.declared.item.RuleItem.{RuleItem}
-use Rattle.patr_library.specs.Stored.{Stored, IsStored, IsRuleItem, rules_of}
-use Rattle.patr_reply.specs.Sources.{IsRuleOf}
 
 pub mother_of : (n : ℕ) (s : Stored) → IsStored s → (rule variant place : ℕ) → (of : IsRuleOf n s rule variant place) (x : RuleItem) → slice_get s.rules place ≡ Some x
     → (mother_category (rule_variant (rules_of s) rule variant) ≡ x.mother.0) × (x.mother.0 < n)

@@ -1,16 +1,7 @@
 -- Solutions without the symbols that no equation names.
 use Rattle.std.proofs.Common.{◌≡◌, ℕ, suc, Bool, cond, List, [], ◌∷◌, map, Some, option_and_then, slice_get, sym, ap, ◌∙◌, subst}
-use Rattle.std.specs.List.{AllByRecursion}
-use Rattle.std.specs.Option.{option_map}
-use Rattle.std.proofs.lemmas.List.{length-map}
-use Rattle.std.proofs.lemmas.Option.{slice_get-map}
-use Rattle.patr_model.specs.Structure.{Value, Atom, Node, Structure, arc, at, IsValue}
-use Rattle.patr_model.specs.Equation.{SlotPath, Term, AtomOf, PathOf, Equation, reached, side, Holds}
-use Rattle.patr_model.specs.Derivation.{Rules, Derivation, Leaf, Begin, Extend, seen, IsComplete}
-use Rattle.patr_model.specs.Solution.{Chain, Solves, Solution}
-use Rattle.patr_model.proofs.Maps.{some_inj, and_then_some, carries, carries_arc}
+use Rattle.patr_reply.proofs.Names.{AllByRecursion, AllPass, AreNamed, Atom, AtomOf, Begin, Chain, Derivation, Equation, Extend, Holds, IsComplete, IsValue, Leaf, LeastValuesNameSymbols, Node, Passes, PathOf, Rules, SlotPath, Solution, Solves, Structure, Term, TermPasses, Value, and_then_some, arc, at, carries, carries_arc, length-map, option_map, reached, seen, side, slice_get-map, some_inj}
 use Rattle.patr_model.proofs.Steps.{partial_or_complete}
-use Rattle.patr_reply.specs.Naming.{Passes, TermPasses, AllPass, AreNamed, LeastValuesNameSymbols}
 use Rattle.patr_reply.proofs.Pruned.{pruned, without, at_kept, at_back, arc_back, atom_passes, value_kept, structure_kept}
 
 module _ (test : ℕ → Bool) where

@@ -1,9 +1,7 @@
 -- A structure without the symbols that fail a test: arcs of their attributes are dropped, and in place of their atoms stands one unspecified node, at the first place.
 use Rattle.std.proofs.Common.{◌≡◌, ℕ, zero, suc, Bool, true, false, cond, nat_eq, eqb-true, true≢false, List, [], ◌∷◌, length, Option, Some, None, option_and_then, slice_index_or, refl, sym, ap, ◌∙◌, subst, arith}
-use Rattle.std.specs.Option.{option_map}
-use Rattle.patr_model.specs.Structure.{Value, Atom, Node, Arc, Arcs, Structure, along, arcs_of, HasDistinct, arc, at, IsBelow, IsValue, IsStructure}
-use Rattle.patr_model.proofs.Maps.{some_inj, and_then_some}
-use Rattle.patr_reply.specs.Naming.{AllPass}
+use Rattle.patr_reply.proofs.Names.{AllPass, Arc, Arcs, Atom, HasDistinct, IsStructure, IsValue, Node, Structure, Value, along, and_then_some, arc, arcs_of, at, option_map, some_inj}
+use Rattle.patr_model.specs.Structure.{IsBelow}
 
 module _ (test : ℕ → Bool) where
   -- an atom that fails is the unspecified node

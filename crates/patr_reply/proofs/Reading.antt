@@ -1,16 +1,9 @@
 -- What was read by a table is held by it.
 use Rattle.std.proofs.Common.{ℕ, List, [], ◌∷◌, length, Option, Some, None}
-use Rattle.std.specs.List.{AllByRecursion}
-use Rattle.std.proofs.lemmas.Option.{slice_get_within}
-use Rattle.patr_model.specs.Grammar.{Row, Rows, Done, One, OneOf, Optional, None', Or}
-use Rattle.patr_model.specs.Productions.{PathText, TermText, AtomText, OfPath, EquationText, FeatureText, Equates, Names, RuleText}
-use Rattle.patr_model.specs.LexiconText.{EntryOf}
+use Rattle.patr_reply.proofs.Names.{AllByRecursion, AllIn, AllInRows, AtomText, Done, EntryIsHeld, EntryOf, Equates, EquationIsHeld, EquationText, FeatureIsHeld, FeatureText, Id, IsText, LibrariesAreHeld, MayBeBelow, Names, None', OfPath, One, OneOf, Optional, Or, PathIsHeld, PathText, Row, Rows, RuleIsHeld, RuleText, SymbolIsHeld, TermIsHeld, TermText, entries_of, grammar_of, slice_get_within}
 use Rattle.patr_model.specs.Renaming.{Each, Both, SameRow, SameRows'}
 use Rattle.patr_model.specs.Agreeing.{SameSymbolText, SamePathText, SameTermText, SameEquationText, SameFeatureText, SameRuleText, SameEntryText}
-use Rattle.patr_text.specs.declared.symbols.Id.{Id}
-use Rattle.patr_grammar.specs.Reading.{IsText}
-use Rattle.patr_library.specs.Stored.{grammar_of, entries_of}
-use Rattle.patr_reply.specs.Held.{AllIn, AllInRows, IsBelow, MayBeBelow, SymbolIsHeld, PathIsHeld, TermIsHeld, EquationIsHeld, FeatureIsHeld, RuleIsHeld, EntryIsHeld, LibrariesAreHeld}
+use Rattle.patr_reply.specs.Held.{IsBelow}
 
 module _ {X Y : Type 0} (R : X → Y → Type 0) (P : X → Type 0) (each : (x : X) (y : Y) → R x y → P x) where
   all_held : (xs : List X) (ys : List Y) → Each R xs ys → AllByRecursion P xs

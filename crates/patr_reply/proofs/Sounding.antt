@@ -1,26 +1,8 @@
 -- What is promised of a parsed sentence is what its reply is written from.
 use Rattle.std.proofs.Common.{◌≡◌, ℕ, suc, ◌≤◌, ltb-true, List, [], ◌∷◌, map, length, Some, slice_get, refl, ap, ◌∙◌, subst, arith}
-use Rattle.std.specs.List.{AllByRecursion}
-use Rattle.std.proofs.lemmas.List.{length-append}
-use Rattle.patr_lists.proofs.Places.{get_there}
-use Rattle.patr_model.specs.Structure.{Value, Structure}
-use Rattle.patr_model.specs.Derivation.{Rules, IsComplete}
-use Rattle.patr_model.specs.Solution.{IsLeastValue}
-use Rattle.patr_model.specs.Text.{entry_category, entry_word}
-use Rattle.patr_model.specs.Chart.{IsAnalysis}
-use Rattle.patr_model.specs.Solved.{solved}
-use Rattle.patr_text.specs.Texts.{first_texts, Extends}
-use Rattle.patr_arena.specs.Shown.{Shown, value_of}
-use Rattle.patr_chart.specs.declared.edge.EdgeKind.{EdgeKind}
-use Rattle.patr_chart.specs.declared.edge.EdgeKind.TheVariants.{Entry, Rule}
-use Rattle.patr_chart.specs.declared.edge.Edge.{Edge}
-use Rattle.patr_chart.specs.Charted.{alone, tree}
-use Rattle.patr_chart.proofs.Trees.{tree_alone}
-use Rattle.patr_library.specs.Stored.{Stored, rules_of}
-use Rattle.patr_parse.specs.Found.{AreSound, IsOfItem}
-use Rattle.patr_reply.specs.Held.{AreHeldBy}
-use Rattle.patr_reply.specs.Naming.{HasNamed}
-use Rattle.patr_reply.specs.Sources.{IsOfLibrary, AreOfLibrary, IsReady}
+use Rattle.patr_reply.proofs.Names.{AllByRecursion, AreHeldBy, AreOfLibrary, AreSound, Edge, EdgeKind, Extends, HasNamed, IsAnalysis, IsComplete, IsLeastValue, IsOfItem, IsOfLibrary, IsReady, Rule, Rules, Shown, Stored, Structure, Value, alone, entry_category, entry_word, get_there, length-append, rules_of, solved, tree, tree_alone, value_of}
+use Rattle.patr_text.specs.Texts.{first_texts}
+use Rattle.patr_chart.specs.declared.edge.EdgeKind.TheVariants.{Entry}
 use Rattle.patr_reply.proofs.Naming.{least_values_name_symbols}
 use Rattle.patr_reply.proofs.Holding.{below, are_named, categories_held, entry_from, entry_below}
 

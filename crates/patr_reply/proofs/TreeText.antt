@@ -1,24 +1,12 @@
 -- One step of writing a tree's text.
 use Rattle.std.proofs.Common.{◌≡◌, ℕ, ◌+◌, ◌<◌, List, [], ◌∷◌, ◌++◌, length, cond, Some, None, slice_get, Result, Ok, Err, IfOk, codes, refl, sym, subst, ap, ◌∙◌, arith, append_assoc, append-nil}
-use Rattle.std.specs.List.{AllByRecursion}
+use Rattle.patr_reply.proofs.Names.{AgreesWith, AllByRecursion, AreEdges, Edge, EdgeKind, IsHeld, IsStep, Look, Mark, Numbering, Rule, Rules, Tree, all_append, alone, entry_category, entry_variant, entry_word, look_by, mother_category, open_tree, printed, root_text, rule_variant, slice_get_within, step_text, step_weight, steps_text, steps_weight, tree_alone, tree_longer}
 use Rattle.std.specs.Result.{is_ok}
-use Rattle.std.proofs.lemmas.Option.{slice_get_within}
-use Rattle.patr_lists.proofs.Alls.{all_append}
 use lib.Utf8.{encode}
-use Rattle.patr_model.specs.Derivation.{Rules, entry_variant, rule_variant}
-use Rattle.patr_model.specs.Text.{Look, printed, entry_category, entry_word, mother_category, open_tree}
-use Rattle.patr_model.specs.Session.{Numbering, AgreesWith}
-use Rattle.patr_chart.specs.declared.edge.EdgeKind.{EdgeKind}
-use Rattle.patr_chart.specs.declared.edge.EdgeKind.TheVariants.{Entry, Rule}
+use Rattle.patr_chart.specs.declared.edge.EdgeKind.TheVariants.{Entry}
 use Rattle.patr_chart.specs.declared.edge.Back.{Back}
-use Rattle.patr_chart.specs.declared.edge.Edge.{Edge}
 use Rattle.patr_reply.specs.declared.tree.Step.{Step}
-use Rattle.patr_reply.specs.declared.tree.Step.TheVariants.{Tree, Mark}
-use Rattle.patr_chart.specs.Charted.{alone, AreEdges}
 use Rattle.patr_chart.specs.Pending.{weight}
-use Rattle.patr_reply.specs.Lines.{look_by}
-use Rattle.patr_reply.specs.Writing.{root_text, step_text, steps_text, step_weight, steps_weight, IsHeld, IsStep}
-use Rattle.patr_chart.proofs.Trees.{tree_alone, tree_longer}
 
 -- texts in a row
 pub four : (a s p c rest : List ℕ) → a ++ (s ++ (p ++ (c ++ rest))) ≡ (((a ++ s) ++ p) ++ c) ++ rest
@@ -27,9 +15,9 @@ four a s p c rest = sym (simp append_assoc)
 pub three : (a b c rest : List ℕ) → a ++ (b ++ (c ++ rest)) ≡ ((a ++ b) ++ c) ++ rest
 three a b c rest = sym (simp append_assoc)
 
--- the parts of a line, one after another
-pub line_written : (old a b number text : List ℕ) → a ≡ old ++ (number ++ codes " ") → b ≡ a ++ text → b ++ 10 ∷ [] ≡ old ++ ((number ++ codes " " ++ text) ++ 10 ∷ [])
-line_written old a b number text h i = simp (i, h, append_assoc)
+-- a line that begins with a mark
+pub line_written : (old a b mark text : List ℕ) → a ≡ old ++ mark → b ≡ a ++ text → b ++ 10 ∷ [] ≡ old ++ ((mark ++ text) ++ 10 ∷ [])
+line_written old a b mark text h i = simp (i, h, append_assoc)
 
 -- a number's text, by the table
 pub text_of : (N : Numbering) (table : List (List ℕ)) → AgreesWith N table → (i : ℕ) (t : List ℕ) → slice_get table i ≡ Some t → N.text i ≡ t

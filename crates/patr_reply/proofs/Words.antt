@@ -1,8 +1,6 @@
 -- The text of a word of a slice.
 use Rattle.std.proofs.Common.{◌≡◌, ℕ, zero, suc, ◌<◌, List, [], ◌∷◌, length, map, Some, slice_get, slice_index_or, Bor, subst}
-use Rattle.std.proofs.lemmas.List.{length-map}
-use Rattle.std.proofs.lemmas.Option.{slice_get_within}
-use Rattle.patr_model.proofs.Maps.{some_inj}
+use Rattle.patr_reply.proofs.Names.{length-map, slice_get_within, some_inj}
 
 abbrev pub texts : List (Bor (List ℕ)) → List (List ℕ)
 texts ws = map (λ (w : Bor (List ℕ)). w.now) ws

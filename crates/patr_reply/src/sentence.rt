@@ -5,7 +5,9 @@ ghost use Rattle.std.specs.String.{string_bytes};
 ghost use Rattle.patr_model.specs.Session.{Numbering, AgreesWith, IsSentenceReply, ListsAll, line};
 ghost use Rattle.patr_model.specs.Solved.{solved};
 ghost use Rattle.patr_model.specs.Table.{table_look};
-ghost use Rattle.patr_model.specs.Text.{tree_text};
+ghost use Rattle.patr_model.specs.Text.{canonical, tree_text};
+ghost use Rattle.patr_arena.specs.Shown.{ValueIsHeld, value_of};
+ghost use Rattle.patr_canon.specs.Walks.{AreSpelled};
 ghost use Rattle.patr_chart.specs.Charted.{tree};
 ghost use Rattle.patr_library.specs.Stored.{keys, rules_of};
 ghost use Rattle.patr_parse.specs.Found.{IsSound};
@@ -14,9 +16,9 @@ ghost use Rattle.patr_reply.specs.Held.{AreHeldBy};
 ghost use Rattle.patr_reply.specs.Lines.{count_line, grounds, listing, look_by, state_of, value_line};
 ghost use Rattle.patr_reply.specs.Sources.{AreOfLibrary, IsReady};
 
-use crate::tree::write_tree;
-use patr_arena::Nodes;
-use patr_canon::canonical;
+use crate::tree::{Step, write_tree};
+use patr_arena::{Nodes, Value};
+use patr_canon::{TextRoom, write_canonical};
 use patr_chart::Chart;
 use patr_library::Library;
 use patr_parse::Parsed;
@@ -25,12 +27,12 @@ use std::alloc::Global;
 
 /// Appends the line of an analysis' tree.
 fn write_line(
-    alloc: Global,
     symbols: &Symbols,
     library: &Library,
     chart: &Chart,
     place: usize,
     number: u32,
+    steps: &mut Vec<Step>,
     out: &mut String,
 ) -> Result<(), Memory>
     requires roots { AreOfLibrary (length symbols.now) library.now chart.now.edges }
@@ -38,18 +40,38 @@ fn write_line(
     ensures { (names : Numbering) → AgreesWith names symbols.now → IfOk result (λ _. string_bytes out.new ≡ string_bytes out.old ++ line (decimal place ++ codes " " ++ tree_text (look_by names) (rules_of library.now) (tree chart.now.edges number))) }
 {
     write!(out, "{place} ")?;
-    write_tree(alloc, symbols, library, chart, number, out)?;
+    write_tree(symbols, library, chart, number, steps, out)?;
+    out.push('\n')
+}
+
+/// Appends the line of a value's features.
+fn write_features<'a, N: Nodes>(
+    alloc: Global,
+    symbols: &'a Symbols,
+    nodes: &N,
+    value: Value,
+    room: &mut TextRoom<'a>,
+    out: &mut String,
+) -> Result<(), Memory>
+    requires value { ValueIsHeld (N.shown nodes.now) value }
+    requires spelled { AreSpelled (length symbols.now) (N.shown nodes.now).structure (value_of (N.shown nodes.now) value) }
+    ensures { IfOk result (λ _. string_bytes out.new ≡ string_bytes out.old
+        ++ line (codes "  " ++ canonical (table_look symbols.now []) (N.shown nodes.now).structure (value_of (N.shown nodes.now) value))) }
+{
+    out.push_str("  ")?;
+    write_canonical(alloc, room, symbols, &[], nodes, value, out)?;
     out.push('\n')
 }
 
 /// Appends the line of an edge's features, where features are written.
-fn write_value<N: Nodes>(
+fn write_value<'a, N: Nodes>(
     alloc: Global,
-    symbols: &Symbols,
+    symbols: &'a Symbols,
     chart: &Chart,
     nodes: &N,
     features: bool,
     number: u32,
+    room: &mut TextRoom<'a>,
     out: &mut String,
 ) -> Result<(), Memory>
     requires { IsReady (length symbols.now) (N.shown nodes.now) chart.now.edges number }
@@ -59,8 +81,7 @@ fn write_value<N: Nodes>(
         return Ok(());
     }
     let root = chart.edge(number).root;
-    let text = canonical(alloc, symbols, &[], nodes, root)?;
-    write!(out, "  {text}\n")
+    write_features(alloc, symbols, nodes, root, room, out)
 }
 
 /// The reply that lists these analyses.
@@ -79,17 +100,22 @@ fn listed<N: Nodes>(
         ≡ listing names symbols.now library.now (N.shown nodes.now) chart.now.edges features (length analyses.now) analyses.now) }
 {
     let mut text = format!(in alloc; "analyses {}\n", analyses.len())?;
+    // one analysis after another works in the same memory
+    let mut steps = Vec::new(alloc);
+    let mut room = TextRoom::new(alloc);
     for (place, number) in analyses.iter().enumerate() {
         write_line(
-            alloc,
             symbols,
             library,
             chart,
             place + 1,
             *number,
+            &mut steps,
             &mut text,
         )?;
-        write_value(alloc, symbols, chart, nodes, features, *number, &mut text)?;
+        write_value(
+            alloc, symbols, chart, nodes, features, *number, &mut room, &mut text,
+        )?;
     }
     Ok(text)
 }

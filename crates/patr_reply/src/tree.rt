@@ -16,12 +16,11 @@ use patr_chart::{Chart, EdgeKind};
 use patr_lexicon::Entry;
 use patr_library::{Library, RuleItem};
 use patr_text::{Id, Memory, Symbols};
-use std::alloc::Global;
 
 /// A part of a tree's text that is still to be written: an edge's tree without its last bracket, or a character that
 /// stands around one.
 #[derive(Clone, Copy)]
-enum Step {
+pub(crate) enum Step {
     Tree(u32),
     Mark(char),
 }
@@ -126,23 +125,23 @@ fn write_step(
     }
 }
 
-/// Appends the text of an edge's tree.
+/// Appends the text of an edge's tree. What stood in `left` does not matter.
 pub(crate) fn write_tree(
-    alloc: Global,
     symbols: &Symbols,
     library: &Library,
     chart: &Chart,
     number: u32,
+    left: &mut Vec<Step>,
     out: &mut String,
 ) -> Result<(), Memory>
     requires roots { AreOfLibrary (length symbols.now) library.now chart.now.edges }
     requires number { number < length chart.now.edges }
     ensures { (names : Numbering) → AgreesWith names symbols.now → IfOk result (λ _. string_bytes out.new ≡ string_bytes out.old ++ tree_text (look_by names) (rules_of library.now) (tree chart.now.edges number)) }
 {
-    let mut left = Vec::new(alloc);
+    left.clear();
     left.push(Step::Tree(number))?;
     while let Some(step) = left.pop() {
-        write_step(symbols, library, chart, step, &mut left, out)?;
+        write_step(symbols, library, chart, step, left, out)?;
     }
     out.push(')')
 }

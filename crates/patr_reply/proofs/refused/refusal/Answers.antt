@@ -1,9 +1,6 @@
 use Rattle.std.proofs.Common.{◌++◌, codes, decimal, ap, ◌∙◌, subst}
-use Rattle.std.specs.String.{string_bytes}
-use Rattle.std.proofs.lemmas.Result.{IfOk-weaker}
-use Rattle.patr_model.specs.Session.{line}
+use Rattle.patr_reply.proofs.Names.{IfOk-weaker, IsFirstCause, line, string_bytes}
 use Rattle.patr_parse.specs.declared.parse.ParseCause.TheVariants.{UnknownWord, TooManyEdges}
-use Rattle.patr_parse.specs.Sentences.{IsFirstCause}
 use Rattle.patr_reply.proofs.KnownWords.{of_unknown, of_many}
 use Rattle.patr_reply.proofs.Words.{texts}
 use Rattle.patr_reply.proofs.refused.refusal.Goals as goal

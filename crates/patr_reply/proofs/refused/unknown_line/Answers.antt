@@ -1,7 +1,5 @@
 use Rattle.std.proofs.Common.{◌≡◌, ◌++◌, ◌∷◌, [], List, ℕ, IfOk, codes, decimal, ◌∙◌}
-use Rattle.std.specs.String.{string_bytes}
-use Rattle.std.proofs.lemmas.Result.{IfOk-weaker}
-use Rattle.patr_model.specs.Session.{line}
+use Rattle.patr_reply.proofs.Names.{IfOk-weaker, line, string_bytes}
 use Rattle.patr_reply.proofs.TreeText.{four}
 use Rattle.patr_reply.proofs.refused.unknown_line.Goals as goal
 

@@ -1,13 +1,5 @@
 use Rattle.std.proofs.Common.{◌++◌, [], length, codes, decimal, sym, ap, ◌∙◌, arith, append-nil}
-use Rattle.std.proofs.lemmas.List.{take_all}
-use Rattle.std.specs.String.{string_bytes}
-use Rattle.std.proofs.lemmas.Option.{slice_get_within}
-use Rattle.patr_lists.proofs.Alls.{all_get}
-use Rattle.patr_model.specs.Session.{line}
-use Rattle.patr_model.specs.Table.{table_look}
-use Rattle.patr_library.specs.Stored.{rules_of}
-use Rattle.patr_reply.specs.Lines.{listing, look_by}
-use Rattle.patr_reply.specs.Sources.{IsReady}
+use Rattle.patr_reply.proofs.Names.{IsReady, all_get, line, listing, look_by, rules_of, slice_get_within, string_bytes, table_look, take_all}
 use Rattle.patr_reply.proofs.Listing.{step_listed}
 use Rattle.patr_reply.proofs.sentence.listed.Goals as goal
 

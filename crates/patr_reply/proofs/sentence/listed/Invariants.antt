@@ -1,7 +1,5 @@
 use Rattle.std.proofs.Common.{◌≡◌, length, take}
-use Rattle.std.specs.String.{string_bytes}
-use Rattle.patr_model.specs.Session.{Numbering, AgreesWith}
-use Rattle.patr_reply.specs.Lines.{listing}
+use Rattle.patr_reply.proofs.Names.{AgreesWith, Numbering, listing, string_bytes}
 use Rattle.patr_reply.proofs.sentence.listed.Given as goal
 
 abbrev pub invariant-loop-place : goal.invariant-loop-place

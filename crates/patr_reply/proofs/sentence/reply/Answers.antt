@@ -1,5 +1,5 @@
 use Rattle.std.proofs.Common.{length}
-use Rattle.std.specs.String.{string_bytes}
+use Rattle.patr_reply.proofs.Names.{string_bytes}
 use Rattle.patr_reply.proofs.KnownWords.{of_parsed}
 use Rattle.patr_reply.proofs.Listing.{lists_all}
 use Rattle.patr_reply.proofs.Sounding.{table_long, are_of_library, all_ready}

@@ -1,4 +1,4 @@
-use Rattle.std.proofs.lemmas.Option.{slice_get-get_or}
+use Rattle.patr_reply.proofs.Names.{slice_get-get_or}
 use Rattle.patr_reply.proofs.Mothers.{mother_of}
 use Rattle.patr_reply.proofs.tree.rule_item.Goals as goal
 

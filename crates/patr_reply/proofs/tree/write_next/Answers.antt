@@ -1,9 +1,5 @@
 use Rattle.std.proofs.Common.{◌++◌, ◌∷◌, []}
-use Rattle.std.specs.String.{string_bytes}
-use Rattle.std.proofs.lemmas.Result.{IfOk-weaker}
-use Rattle.patr_library.specs.Stored.{rules_of}
-use Rattle.patr_reply.specs.declared.tree.Step.TheVariants.{Tree}
-use Rattle.patr_reply.specs.Writing.{IsStep}
+use Rattle.patr_reply.proofs.Names.{IfOk-weaker, IsStep, Tree, rules_of, string_bytes}
 use Rattle.patr_reply.proofs.TreeText.{if_ok_made, root_step, parts_step}
 use Rattle.patr_reply.proofs.tree.write_next.Goals as goal
 

@@ -1,12 +1,7 @@
 use Rattle.std.proofs.Common.{◌≡◌, length, sym, ap, ◌∙◌, subst}
-use Rattle.std.specs.String.{string_bytes}
-use Rattle.std.proofs.lemmas.Result.{IfOk-weaker}
+use Rattle.patr_reply.proofs.Names.{IfOk-weaker, IsEntryOf, IsOfLibrary, look_by, rules_of, some_inj, string_bytes}
 use lib.Utf8.{encode}
-use Rattle.patr_model.proofs.Maps.{some_inj}
 use Rattle.patr_lexicon.specs.declared.lexicon.Entry.{Entry}
-use Rattle.patr_library.specs.Stored.{rules_of}
-use Rattle.patr_reply.specs.Lines.{look_by}
-use Rattle.patr_reply.specs.Sources.{IsEntryOf, IsOfLibrary}
 use Rattle.patr_reply.proofs.TreeText.{entry_written, rule_written}
 use Rattle.patr_reply.proofs.tree.write_root.Goals as goal
 

@@ -1,8 +1,5 @@
 use Rattle.std.proofs.Common.{◌++◌, ◌∷◌, [], refl, arith}
-use Rattle.std.specs.String.{string_bytes}
-use Rattle.patr_library.specs.Stored.{rules_of}
-use Rattle.patr_reply.specs.declared.tree.Step.TheVariants.{Mark}
-use Rattle.patr_reply.specs.Writing.{IsStep}
+use Rattle.patr_reply.proofs.Names.{IsStep, Mark, rules_of, string_bytes}
 use Rattle.patr_reply.proofs.TreeText.{if_ok_made, text_step}
 use Rattle.patr_reply.proofs.tree.write_step.Goals as goal
 

@@ -1,7 +1,5 @@
 use Rattle.std.proofs.Common.{◌++◌, sym, ap, ◌∙◌}
-use Rattle.std.specs.String.{string_bytes}
-use Rattle.std.proofs.lemmas.Result.{IfOk-weaker}
-use Rattle.patr_model.specs.Text.{printed}
+use Rattle.patr_reply.proofs.Names.{IfOk-weaker, printed, string_bytes}
 use Rattle.patr_reply.proofs.TreeText.{text_of}
 use Rattle.patr_reply.proofs.tree.write_symbol.Goals as goal
 

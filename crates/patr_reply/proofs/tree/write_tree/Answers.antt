@@ -1,7 +1,5 @@
 use Rattle.std.proofs.Common.{◌∷◌, [], length, subst}
-use Rattle.std.specs.List.{AllByRecursion}
-use Rattle.patr_lists.proofs.Alls.{all_left, all_right}
-use Rattle.patr_reply.specs.Writing.{IsHeld}
+use Rattle.patr_reply.proofs.Names.{AllByRecursion, IsHeld, all_left, all_right}
 use Rattle.patr_reply.proofs.tree.write_tree.Goals as goal
 
 pub write_step-requires-clause-step : goal.write_step-requires-clause-step

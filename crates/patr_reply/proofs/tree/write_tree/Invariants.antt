@@ -1,12 +1,5 @@
 use Rattle.std.proofs.Common.{◌≡◌, ◌++◌, length}
-use Rattle.std.specs.List.{AllByRecursion}
-use Rattle.std.specs.String.{string_bytes}
-use Rattle.patr_model.specs.Text.{open_tree}
-use Rattle.patr_model.specs.Session.{Numbering, AgreesWith}
-use Rattle.patr_chart.specs.Charted.{tree}
-use Rattle.patr_library.specs.Stored.{rules_of}
-use Rattle.patr_reply.specs.Lines.{look_by}
-use Rattle.patr_reply.specs.Writing.{steps_text, steps_weight, IsHeld}
+use Rattle.patr_reply.proofs.Names.{AgreesWith, AllByRecursion, IsHeld, Numbering, look_by, open_tree, rules_of, steps_text, steps_weight, string_bytes, tree}
 use Rattle.patr_reply.proofs.tree.write_tree.Given as goal
 
 abbrev pub invariant-loop-step : goal.invariant-loop-step

@@ -1,5 +1,5 @@
 use Rattle.std.proofs.Common.{◌∷◌, [], length, subst}
-use Rattle.patr_chart.specs.Pending.{AreHeld}
+use Rattle.patr_chart.proofs.Names.{AreHeld}
 use Rattle.patr_chart.proofs.Written.{held_split}
 use Rattle.patr_chart.proofs.chart.Chart.derivation.Goals as goal
 

@@ -1,7 +1,5 @@
 use Rattle.std.proofs.Common.{◌≡◌, length}
-use Rattle.patr_model.specs.Derivation.{key}
-use Rattle.patr_chart.specs.Charted.{tree}
-use Rattle.patr_chart.specs.Pending.{whole_key, weights, AreHeld}
+use Rattle.patr_chart.proofs.Names.{AreHeld, key, tree, weights, whole_key}
 use Rattle.patr_chart.proofs.chart.Chart.derivation.Given as goal
 
 abbrev pub invariant-loop-next : goal.invariant-loop-next

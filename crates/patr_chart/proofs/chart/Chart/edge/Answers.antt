@@ -1,7 +1,5 @@
 use Rattle.std.proofs.Common.{◌≡◌, ◌<◌, length, slice_get, Some, sym, ap, subst, ◌∙◌}
-use Rattle.std.proofs.lemmas.Option.{slice_get-get_or}
-use Rattle.patr_model.specs.Derivation.{start, end}
-use Rattle.patr_chart.specs.Charted.{tree}
+use Rattle.patr_chart.proofs.Names.{end, slice_get-get_or, start, tree}
 use Rattle.patr_chart.proofs.Trees.{tree_of}
 use Rattle.patr_chart.proofs.chart.Chart.edge.Goals as goal
 

@@ -1,5 +1,5 @@
 use Rattle.std.proofs.Common.{◌<◌, length, sym, ap, subst, ◌∙◌}
-use Rattle.patr_chart.specs.Charted.{partners}
+use Rattle.patr_chart.proofs.Names.{partners}
 use Rattle.patr_chart.proofs.Indexed.{are_partners, enough}
 use Rattle.patr_chart.proofs.chart.Chart.partners.Goals as goal
 

@@ -1,6 +1,5 @@
 use Rattle.std.proofs.Common.{◌≡◌, ◌++◌, ◌∷◌, [], length, sym, ap, subst, ◌∙◌, arith}
-use Rattle.patr_chart.specs.Lists.{neighbours, IsEntered}
-use Rattle.patr_chart.specs.Charted.{IsEdgeAfter}
+use Rattle.patr_chart.proofs.Names.{IsEdgeAfter, IsEntered, neighbours}
 use Rattle.patr_chart.proofs.Indexed.{few_neighbours, more_indexed}
 use Rattle.patr_chart.proofs.chart.Chart.push_edge.Goals as goal
 

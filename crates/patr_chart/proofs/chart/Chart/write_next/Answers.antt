@@ -1,7 +1,5 @@
 use Rattle.std.proofs.Common.{◌≡◌, ◌<◌, ◌++◌, ◌∷◌, [], length, slice_get, Some, sym, ap, subst, ◌∙◌}
-use Rattle.std.proofs.lemmas.Option.{slice_get-get_or, slice_get_within}
-use Rattle.patr_chart.specs.declared.chart.Pending.{Pending}
-use Rattle.patr_chart.specs.Pending.{AreHeld}
+use Rattle.patr_chart.proofs.Names.{AreHeld, Pending, slice_get-get_or, slice_get_within}
 use Rattle.patr_chart.proofs.Trees.{tree_longer}
 use Rattle.patr_chart.proofs.Written.{root_step, pair_step}
 use Rattle.patr_chart.proofs.chart.Chart.write_next.Goals as goal
