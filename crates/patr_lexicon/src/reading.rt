@@ -5,7 +5,8 @@
 ghost use Rattle.std.specs.Prelude.{◌≡◌, ◌+◌, ◌-◌, ◌^◌, ◌<◌, ◌≤◌, List, length, Result, Ok, IfOk, IfErr, None, false};
 ghost use Rattle.patr_model.specs.LexiconLines.{lines, fields_of, bad_token};
 ghost use Rattle.patr_text.specs.declared.fault.Fault.TheVariants.{Refused};
-ghost use Rattle.patr_model.specs.LexiconText.{BadToken as Bad, EntryText as Text, EntryFault, Misread, read_fields};
+ghost use Rattle.patr_model.specs.LexiconText.{BadToken as Bad, EntryText as Text, EntryFault, read_fields};
+ghost use Rattle.patr_model.specs.Faults.{Misread};
 ghost use Rattle.patr_model.specs.Built.{stage};
 ghost use Rattle.patr_text.specs.Texts.{Extends};
 ghost use Rattle.patr_lexicon.specs.Laid.{IsLaidBefore};
