@@ -18,7 +18,7 @@ has_some table h = let len = ap length h.1 in omega (arith, len)
 
 pub loop-left-init : goal.loop-left-init
 loop-left-init c = record {
-  going = going_start c.args.symbols.now c.args.text.now c.new-reader.result (has_some c.args.symbols.now c.len-count.ensures.first) c.new-reader.ensures.places c.new-reader.ensures.begun c.new-reader.ensures.root c.new-reader.ensures.nodes;
+  going = going_start c.args.symbols.now c.args.text.now c.new-reader.result (has_some c.args.symbols.now c.recall.ensures.first) c.new-reader.ensures.places c.new-reader.ensures.begun c.new-reader.ensures.root c.new-reader.ensures.nodes;
   utf8 = c.utf8.text;
 }
 
