@@ -9,6 +9,7 @@ use Rattle.patr_model.specs.Laws.{TextsDiffer}
 use Rattle.patr_model.specs.Reading.{bare_front, digits_front, printed_front, quoted_front}
 use Rattle.patr_model.specs.Stack.{Event, OfAtom, OfAgain, Opens, OfArc, Closes}
 use Rattle.patr_model.specs.Text.{Look, printed}
+use Rattle.patr_text.specs.Texts.{Extends}
 use Rattle.patr_text.specs.declared.symbols.Id.{Id}
 use Rattle.patr_canon.specs.declared.event.Event as its
 use Rattle.patr_canon.specs.declared.event.Event.TheVariants as event
@@ -54,6 +55,11 @@ IsBareFront table bs (Some x) = (t : List ℕ) × (slice_get table x.0.0 ≡ Som
 abbrev pub IsSymbolFront : List (List ℕ) → List ℕ → Option (Id × Bor (List ℕ)) → Type 0
 IsSymbolFront table bs None = (t r : List ℕ) → printed t ++ r ≡ bs → printed_front bs ≡ Some (record { it = t; rest = r }) → ⊥
 IsSymbolFront table bs (Some x) = (t : List ℕ) × (slice_get table x.0.0 ≡ Some t) × (printed_front bs ≡ Some (record { it = t; rest = x.1.now }))
+
+-- the table kept its texts, and got no more of them than the text has bytes
+pub record HasGrown (old new : List (List ℕ)) (bs : List ℕ) : Type 0 where
+  pub table : Extends old new
+  pub limit : length new ≤ length old + length bs
 
 -- the symbol that was read is held, and what is left is shorter; the table grew by no more than the text got shorter
 abbrev pub IsFurther : {X : Type 0} → ℕ → ℕ → List ℕ → Option (X × Bor (List ℕ)) → Type 0

@@ -4,13 +4,16 @@ ghost use Rattle.patr_text.specs.Texts.{Extends};
 ghost use Rattle.patr_model.specs.Items.{AValue};
 ghost use Rattle.patr_model.specs.Reading.{skip};
 ghost use Rattle.patr_model.specs.Stack.{separator};
-ghost use Rattle.patr_canon.specs.Items.{IsBareFront, IsFurther, IsItem, IsNumbered, IsQuotedFront, IsSpelledItem, IsSymbolFront, expect_behind, expect_in, expected_seen};
+ghost use Rattle.patr_canon.specs.Items.{HasGrown, IsBareFront, IsFurther, IsItem, IsNumbered, IsQuotedFront, IsSpelledItem, IsSymbolFront, expect_behind, expect_in, expected_seen};
 ghost use Rattle.patr_canon.specs.Walks.{event_seen};
 
 use crate::event::Event;
 use crate::front::{bare_front, behind, behind_both, number_front, unquote};
 use patr_text::{Id, Memory, Symbols};
 use std::alloc::Global;
+
+/// What stands at the front of a text, and what is behind it; `None` where nothing that is looked for stands there.
+type Found<'a, X> = Result<Option<(X, &'a str)>, Memory>;
 
 /// What a text goes on with: a value; a node's first attribute or its bracket; what follows a value.
 #[derive(Clone, Copy, Debug, PartialEq, Eq)]
@@ -44,14 +47,9 @@ fn number_of(symbols: &mut Symbols, text: &str) -> Result<Id, Memory>
 }
 
 /// The symbol up to the closing quote, and what is behind it.
-fn quoted_symbol<'a>(
-    alloc: Global,
-    symbols: &mut Symbols,
-    text: &'a str,
-) -> Result<Option<(Id, &'a str)>, Memory>
+fn quoted_symbol<'a>(alloc: Global, symbols: &mut Symbols, text: &'a str) -> Found<'a, Id>
     requires room { length symbols.old + length text.now < 2 ^ 32 - 1 }
-    ensures table { Extends symbols.old symbols.new }
-    ensures limit { length symbols.new ≤ length symbols.old + length text.now }
+    ensures grown { HasGrown symbols.old symbols.new text.now }
     ensures front { IfOk result (IsQuotedFront symbols.new text.now) }
     ensures further { IfOk result (IsFurther (length symbols.old) (length symbols.new) text.now) }
 {
@@ -64,10 +62,9 @@ fn quoted_symbol<'a>(
 }
 
 /// The symbol without quotes, and what is behind it; `None` where it has no bytes.
-fn bare_symbol<'a>(symbols: &mut Symbols, text: &'a str) -> Result<Option<(Id, &'a str)>, Memory>
+fn bare_symbol<'a>(symbols: &mut Symbols, text: &'a str) -> Found<'a, Id>
     requires room { length symbols.old + length text.now < 2 ^ 32 - 1 }
-    ensures table { Extends symbols.old symbols.new }
-    ensures limit { length symbols.new ≤ length symbols.old + length text.now }
+    ensures grown { HasGrown symbols.old symbols.new text.now }
     ensures front { IfOk result (IsBareFront symbols.new text.now) }
     ensures further { IfOk result (IsFurther (length symbols.old) (length symbols.new) text.now) }
 {
@@ -80,14 +77,9 @@ fn bare_symbol<'a>(symbols: &mut Symbols, text: &'a str) -> Result<Option<(Id, &
 }
 
 /// The atom or attribute at the front, and what is behind it.
-fn symbol_front<'a>(
-    alloc: Global,
-    symbols: &mut Symbols,
-    text: &'a str,
-) -> Result<Option<(Id, &'a str)>, Memory>
+fn symbol_front<'a>(alloc: Global, symbols: &mut Symbols, text: &'a str) -> Found<'a, Id>
     requires room { length symbols.old + length text.now < 2 ^ 32 - 1 }
-    ensures table { Extends symbols.old symbols.new }
-    ensures limit { length symbols.new ≤ length symbols.old + length text.now }
+    ensures grown { HasGrown symbols.old symbols.new text.now }
     ensures front { IfOk result (IsSymbolFront symbols.new text.now) }
     ensures further { IfOk result (IsFurther (length symbols.old) (length symbols.new) text.now) }
 {
@@ -109,14 +101,9 @@ fn numbered(text: &str) -> Option<(Event, &str)>
 }
 
 /// What a value begins with, and what is behind it.
-fn value_item<'a>(
-    alloc: Global,
-    symbols: &mut Symbols,
-    text: &'a str,
-) -> Result<Option<(Event, &'a str)>, Memory>
+fn value_item<'a>(alloc: Global, symbols: &mut Symbols, text: &'a str) -> Found<'a, Event>
     requires room { length symbols.old + length text.now < 2 ^ 32 - 1 }
-    ensures table { Extends symbols.old symbols.new }
-    ensures limit { length symbols.new ≤ length symbols.old + length text.now }
+    ensures grown { HasGrown symbols.old symbols.new text.now }
     ensures item { IfOk result (IsItem symbols.new AValue text.now) }
     ensures further { IfOk result (IsFurther (length symbols.old) (length symbols.new) text.now) }
     ensures spelled { IfOk result (IsSpelledItem (length symbols.new)) }
@@ -147,10 +134,9 @@ fn node_item<'a>(
     symbols: &mut Symbols,
     first: bool,
     text: &'a str,
-) -> Result<Option<(Event, &'a str)>, Memory>
+) -> Found<'a, Event>
     requires room { length symbols.old + length text.now < 2 ^ 32 - 1 }
-    ensures table { Extends symbols.old symbols.new }
-    ensures limit { length symbols.new ≤ length symbols.old + length text.now }
+    ensures grown { HasGrown symbols.old symbols.new text.now }
     ensures item { IfOk result (IsItem symbols.new (expect_in first) text.now) }
     ensures further { IfOk result (IsFurther (length symbols.old) (length symbols.new) text.now) }
     ensures spelled { IfOk result (IsSpelledItem (length symbols.new)) }
@@ -177,10 +163,9 @@ pub(crate) fn item_front<'a>(
     symbols: &mut Symbols,
     expected: Expected,
     text: &'a str,
-) -> Result<Option<(Event, &'a str)>, Memory>
+) -> Found<'a, Event>
     requires room { length symbols.old + length text.now < 2 ^ 32 - 1 }
-    ensures table { Extends symbols.old symbols.new }
-    ensures limit { length symbols.new ≤ length symbols.old + length text.now }
+    ensures grown { HasGrown symbols.old symbols.new text.now }
     ensures item { IfOk result (IsItem symbols.new (expected_seen expected) text.now) }
     ensures further { IfOk result (IsFurther (length symbols.old) (length symbols.new) text.now) }
     ensures spelled { IfOk result (IsSpelledItem (length symbols.new)) }
