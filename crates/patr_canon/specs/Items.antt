@@ -102,3 +102,7 @@ IsItem table e bs (Some r) = (l : Look) → IsLookOf table l → (d : ℕ) (x : 
 abbrev pub IsSpelledItem : ℕ → Option (its.Event × Bor (List ℕ)) → Type 0
 IsSpelledItem n None = Unit {0}
 IsSpelledItem n (Some x) = EventIsSpelled n (event_seen x.0)
+
+-- what is left behind an event is shorter, and the event's symbol is held
+abbrev pub IsFurtherItem : ℕ → ℕ → List ℕ → Option (its.Event × Bor (List ℕ)) → Type 0
+IsFurtherItem old new bs r = IsFurther old new bs r × IsSpelledItem new r

@@ -4,7 +4,7 @@ ghost use Rattle.patr_text.specs.Texts.{Extends};
 ghost use Rattle.patr_model.specs.Items.{AValue};
 ghost use Rattle.patr_model.specs.Reading.{skip};
 ghost use Rattle.patr_model.specs.Stack.{separator};
-ghost use Rattle.patr_canon.specs.Items.{HasGrown, IsBareFront, IsFurther, IsItem, IsNumbered, IsQuotedFront, IsSpelledItem, IsSymbolFront, expect_behind, expect_in, expected_seen};
+ghost use Rattle.patr_canon.specs.Items.{HasGrown, IsBareFront, IsFurther, IsFurtherItem, IsItem, IsNumbered, IsQuotedFront, IsSymbolFront, expect_behind, expect_in, expected_seen};
 ghost use Rattle.patr_canon.specs.Walks.{event_seen};
 
 use crate::event::Event;
@@ -14,6 +14,9 @@ use std::alloc::Global;
 
 /// What stands at the front of a text, and what is behind it; `None` where nothing that is looked for stands there.
 type Found<'a, X> = Result<Option<(X, &'a str)>, Memory>;
+
+/// An event that stands at the front of a text, and what is behind it.
+type FoundItem<'a> = Found<'a, Event>;
 
 /// What a text goes on with: a value; a node's first attribute or its bracket; what follows a value.
 #[derive(Clone, Copy, Debug, PartialEq, Eq)]
@@ -101,12 +104,11 @@ fn numbered(text: &str) -> Option<(Event, &str)>
 }
 
 /// What a value begins with, and what is behind it.
-fn value_item<'a>(alloc: Global, symbols: &mut Symbols, text: &'a str) -> Found<'a, Event>
+fn value_item<'a>(alloc: Global, symbols: &mut Symbols, text: &'a str) -> FoundItem<'a>
     requires room { length symbols.old + length text.now < 2 ^ 32 - 1 }
     ensures grown { HasGrown symbols.old symbols.new text.now }
     ensures item { IfOk result (IsItem symbols.new AValue text.now) }
-    ensures further { IfOk result (IsFurther (length symbols.old) (length symbols.new) text.now) }
-    ensures spelled { IfOk result (IsSpelledItem (length symbols.new)) }
+    ensures further { IfOk result (IsFurtherItem (length symbols.old) (length symbols.new) text.now) }
 {
     if let Some(rest) = behind(text, '[') {
         return Ok(Some((Event::Open(0), rest)));
@@ -129,17 +131,11 @@ fn separated(first: bool, text: &str) -> Option<&str>
 }
 
 /// A node's bracket, or its first or a further attribute with its `: `, and what is behind it.
-fn node_item<'a>(
-    alloc: Global,
-    symbols: &mut Symbols,
-    first: bool,
-    text: &'a str,
-) -> Found<'a, Event>
+fn node_item<'a>(alloc: Global, symbols: &mut Symbols, first: bool, text: &'a str) -> FoundItem<'a>
     requires room { length symbols.old + length text.now < 2 ^ 32 - 1 }
     ensures grown { HasGrown symbols.old symbols.new text.now }
     ensures item { IfOk result (IsItem symbols.new (expect_in first) text.now) }
-    ensures further { IfOk result (IsFurther (length symbols.old) (length symbols.new) text.now) }
-    ensures spelled { IfOk result (IsSpelledItem (length symbols.new)) }
+    ensures further { IfOk result (IsFurtherItem (length symbols.old) (length symbols.new) text.now) }
 {
     if let Some(rest) = behind(text, ']') {
         return Ok(Some((Event::Close, rest)));
@@ -163,12 +159,11 @@ pub(crate) fn item_front<'a>(
     symbols: &mut Symbols,
     expected: Expected,
     text: &'a str,
-) -> Found<'a, Event>
+) -> FoundItem<'a>
     requires room { length symbols.old + length text.now < 2 ^ 32 - 1 }
     ensures grown { HasGrown symbols.old symbols.new text.now }
     ensures item { IfOk result (IsItem symbols.new (expected_seen expected) text.now) }
-    ensures further { IfOk result (IsFurther (length symbols.old) (length symbols.new) text.now) }
-    ensures spelled { IfOk result (IsSpelledItem (length symbols.new)) }
+    ensures further { IfOk result (IsFurtherItem (length symbols.old) (length symbols.new) text.now) }
 {
     match expected {
         Expected::Value => value_item(alloc, symbols, text),

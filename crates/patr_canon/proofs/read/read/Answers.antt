@@ -37,8 +37,8 @@ loop-left-preserved c =
       going = going_on c.args.symbols.now c.loop-left.symbols table c.args.text.now c.loop-left.reader c.feed.new.self (expected_seen c.loop-left.expected) c.loop-left.left.now c.in-Some.event c.in-Some.rest (expected_seen c.expected_behind-expected.result)
           c.loop-left.invariant.going (not_empty c.loop-left.left.now c.loop-left-test.ensures) c.in_ok-event.ensures.grown.table
           (subst (IsItem table (expected_seen c.loop-left.expected) c.loop-left.left.now) c.in-Some.is c.in_ok-event.ensures.item)
-          (subst (IsSpelledItem (length table)) c.in-Some.is c.in_ok-event.ensures.spelled)
-          (subst (IsFurther (length c.loop-left.symbols) (length table) c.loop-left.left.now) c.in-Some.is c.in_ok-event.ensures.further).1
+          (subst (IsSpelledItem (length table)) c.in-Some.is c.in_ok-event.ensures.further.1)
+          (subst (IsFurther (length c.loop-left.symbols) (length table) c.loop-left.left.now) c.in-Some.is c.in_ok-event.ensures.further.0).1
           c.in_ok-feed.ensures c.expected_behind-expected.ensures;
       utf8 = search rules;
     }
