@@ -1,5 +1,5 @@
 -- The nodes that have numbers.
-use Rattle.std.proofs.Common.{◌≡◌, ℕ, zero, suc, ◌+◌, ◌<◌, ◌≤◌, Bool, true, false, cond, not, ◌||◌, nat_eq, nat_lt, ltb-true, ltb-false, lt-ltb, le-ltb, true≢false, List, [], ◌∷◌, ◌++◌, append-nil, flat_map, length, take, drop, get_or, Option, Some, None, option_map, is_some, slice_get, refl, sym, ap, ◌∙◌, subst, arith}
+use Rattle.std.proofs.Common.{◌≡◌, ℕ, zero, suc, ◌+◌, ◌<◌, Bool, true, false, cond, not, ◌||◌, nat_eq, nat_lt, ltb-true, ltb-false, lt-ltb, le-ltb, true≢false, List, [], ◌∷◌, ◌++◌, append-nil, flat_map, length, take, drop, get_or, Option, Some, None, option_map, is_some, slice_get, refl, sym, ap, ◌∙◌, subst, arith}
 use Rattle.std.proofs.lemmas.Grind.{flat_map-append}
 use Rattle.patr_lists.proofs.Alls.{all_append}
 use Rattle.patr_canon.proofs.Names.{Again, AllByRecursion, AreOnce, Begun, Branch, Branches, Closes, Done, Event, EventIsNumbered, EventsAreNumbered, EventsTell, IsDone, IsStructure, IsValue, Leaf, Look, OfAgain, OfArc, OfAtom, Opens, Outline, Structure, Value, again_of, append_assoc, canonical, drop_more, event_seen, event_text, events, events_of, events_seen, from_one, kept, list_any, map-append, met_again, number_by, number_in, opened, opened_of, outline, place_in, place_longer, place_there, position, position_or_len, renumbered, renumbered_all, repeats, some_inj, take-append-drop, take_more, tree_of, visits}
