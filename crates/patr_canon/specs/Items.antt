@@ -62,9 +62,9 @@ pub record HasGrown (old new : List (List ℕ)) (bs : List ℕ) : Type 0 where
   pub limit : length new ≤ length old + length bs
 
 -- the symbol that was read is held, and what is left is shorter; the table grew by no more than the text got shorter
-abbrev pub IsFurther : {X : Type 0} → ℕ → ℕ → List ℕ → Option (X × Bor (List ℕ)) → Type 0
+abbrev pub IsFurther : {X : Type 0} → List (List ℕ) → List (List ℕ) → List ℕ → Option (X × Bor (List ℕ)) → Type 0
 IsFurther old new bs None = Unit {0}
-IsFurther old new bs (Some x) = (length x.1.now < length bs) × (new + length x.1.now ≤ old + length bs)
+IsFurther old new bs (Some x) = (length x.1.now < length bs) × (length new + length x.1.now ≤ length old + length bs)
 
 -- the attribute that some Look prints at the front, with its `: `
 abbrev pub IsArcFront : List (List ℕ) → Bool → List ℕ → Option (its.Event × Bor (List ℕ)) → Type 0
@@ -104,5 +104,5 @@ IsSpelledItem n None = Unit {0}
 IsSpelledItem n (Some x) = EventIsSpelled n (event_seen x.0)
 
 -- what is left behind an event is shorter, and the event's symbol is held
-abbrev pub IsFurtherItem : ℕ → ℕ → List ℕ → Option (its.Event × Bor (List ℕ)) → Type 0
-IsFurtherItem old new bs r = IsFurther old new bs r × IsSpelledItem new r
+abbrev pub IsFurtherItem : List (List ℕ) → List (List ℕ) → List ℕ → Option (its.Event × Bor (List ℕ)) → Type 0
+IsFurtherItem old new bs r = IsFurther old new bs r × IsSpelledItem (length new) r

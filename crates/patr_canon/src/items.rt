@@ -54,7 +54,7 @@ fn quoted_symbol<'a>(alloc: Global, symbols: &mut Symbols, text: &'a str) -> Fou
     requires room { length symbols.old + length text.now < 2 ^ 32 - 1 }
     ensures grown { HasGrown symbols.old symbols.new text.now }
     ensures front { IfOk result (IsQuotedFront symbols.new text.now) }
-    ensures further { IfOk result (IsFurther (length symbols.old) (length symbols.new) text.now) }
+    ensures further { IfOk result (IsFurther symbols.old symbols.new text.now) }
 {
     let mut symbol = String::new(alloc);
     let Some(rest) = unquote(text, &mut symbol)? else {
@@ -69,7 +69,7 @@ fn bare_symbol<'a>(symbols: &mut Symbols, text: &'a str) -> Found<'a, Id>
     requires room { length symbols.old + length text.now < 2 ^ 32 - 1 }
     ensures grown { HasGrown symbols.old symbols.new text.now }
     ensures front { IfOk result (IsBareFront symbols.new text.now) }
-    ensures further { IfOk result (IsFurther (length symbols.old) (length symbols.new) text.now) }
+    ensures further { IfOk result (IsFurther symbols.old symbols.new text.now) }
 {
     let (symbol, rest) = bare_front(text);
     if symbol.is_empty() {
@@ -84,7 +84,7 @@ fn symbol_front<'a>(alloc: Global, symbols: &mut Symbols, text: &'a str) -> Foun
     requires room { length symbols.old + length text.now < 2 ^ 32 - 1 }
     ensures grown { HasGrown symbols.old symbols.new text.now }
     ensures front { IfOk result (IsSymbolFront symbols.new text.now) }
-    ensures further { IfOk result (IsFurther (length symbols.old) (length symbols.new) text.now) }
+    ensures further { IfOk result (IsFurther symbols.old symbols.new text.now) }
 {
     match behind(text, '"') {
         Some(quoted) => quoted_symbol(alloc, symbols, quoted),
@@ -108,7 +108,7 @@ fn value_item<'a>(alloc: Global, symbols: &mut Symbols, text: &'a str) -> FoundI
     requires room { length symbols.old + length text.now < 2 ^ 32 - 1 }
     ensures grown { HasGrown symbols.old symbols.new text.now }
     ensures item { IfOk result (IsItem symbols.new AValue text.now) }
-    ensures further { IfOk result (IsFurtherItem (length symbols.old) (length symbols.new) text.now) }
+    ensures further { IfOk result (IsFurtherItem symbols.old symbols.new text.now) }
 {
     if let Some(rest) = behind(text, '[') {
         return Ok(Some((Event::Open(0), rest)));
@@ -135,7 +135,7 @@ fn node_item<'a>(alloc: Global, symbols: &mut Symbols, first: bool, text: &'a st
     requires room { length symbols.old + length text.now < 2 ^ 32 - 1 }
     ensures grown { HasGrown symbols.old symbols.new text.now }
     ensures item { IfOk result (IsItem symbols.new (expect_in first) text.now) }
-    ensures further { IfOk result (IsFurtherItem (length symbols.old) (length symbols.new) text.now) }
+    ensures further { IfOk result (IsFurtherItem symbols.old symbols.new text.now) }
 {
     if let Some(rest) = behind(text, ']') {
         return Ok(Some((Event::Close, rest)));
@@ -163,7 +163,7 @@ pub(crate) fn item_front<'a>(
     requires room { length symbols.old + length text.now < 2 ^ 32 - 1 }
     ensures grown { HasGrown symbols.old symbols.new text.now }
     ensures item { IfOk result (IsItem symbols.new (expected_seen expected) text.now) }
-    ensures further { IfOk result (IsFurtherItem (length symbols.old) (length symbols.new) text.now) }
+    ensures further { IfOk result (IsFurtherItem symbols.old symbols.new text.now) }
 {
     match expected {
         Expected::Value => value_item(alloc, symbols, text),

@@ -38,7 +38,7 @@ loop-left-preserved c =
           c.loop-left.invariant.going (not_empty c.loop-left.left.now c.loop-left-test.ensures) c.in_ok-event.ensures.grown.table
           (subst (IsItem table (expected_seen c.loop-left.expected) c.loop-left.left.now) c.in-Some.is c.in_ok-event.ensures.item)
           (subst (IsSpelledItem (length table)) c.in-Some.is c.in_ok-event.ensures.further.1)
-          (subst (IsFurther (length c.loop-left.symbols) (length table) c.loop-left.left.now) c.in-Some.is c.in_ok-event.ensures.further.0).1
+          (subst (IsFurther c.loop-left.symbols table c.loop-left.left.now) c.in-Some.is c.in_ok-event.ensures.further.0).1
           c.in_ok-feed.ensures c.expected_behind-expected.ensures;
       utf8 = search rules;
     }
