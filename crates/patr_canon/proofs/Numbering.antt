@@ -133,25 +133,21 @@ module _ (these : List ℕ) (es : List its.Event) (i : ℕ) (d : its.Event) (h :
 
 pub placed_at : (ns : List ℕ) (n : ℕ) → position (nat_eq n) ns ≡ place_in ns n
 placed_at [] n = refl
-placed_at (m ∷ ns) n = go (nat_eq n m) refl (nat_lt (position_or_len (nat_eq n) ns) (length ns)) refl (placed_at ns n)
+placed_at (m ∷ ns) n = go (nat_eq n m) refl (placed_at ns n)
   where
     k : ℕ
     k = position_or_len (nat_eq n) ns
 
-    go : (b : Bool) → nat_eq n m ≡ b → (c : Bool) → nat_lt k (length ns) ≡ c → cond (nat_lt k (length ns)) (Some k) None ≡ place_in ns n
-        → position (nat_eq n) (m ∷ ns) ≡ cond b (Some 0) (option_map (λ i. suc i) (place_in ns n))
-    go true e c f rest =
-        ap (λ b. cond (nat_lt (cond (not b) (1 + k) 0) (length (m ∷ ns))) (Some (cond (not b) (1 + k) 0)) None) e ∙ ap (λ b. cond b (Some 0) None) (lt-ltb 0 (length (m ∷ ns)) (omega arith))
-    go false e true f rest =
-        let lt = ltb-true k (length ns) f in
-        let one : 1 + k ≡ suc k = omega arith in
-        ap (λ b. cond (nat_lt (cond (not b) (1 + k) 0) (length (m ∷ ns))) (Some (cond (not b) (1 + k) 0)) None) e
-        ∙ (ap (λ b. cond b (Some (1 + k)) None) (lt-ltb (1 + k) (length (m ∷ ns)) (omega (arith, lt)))
-        ∙ (ap Some one ∙ ap (option_map (λ i. suc i)) (sym (ap (λ b. cond b (Some k) None) f) ∙ rest)))
-    go false e false f rest =
-        let le = ltb-false k (length ns) f in
-        ap (λ b. cond (nat_lt (cond (not b) (1 + k) 0) (length (m ∷ ns))) (Some (cond (not b) (1 + k) 0)) None) e
-        ∙ (ap (λ b. cond b (Some (1 + k)) None) (le-ltb (1 + k) (length (m ∷ ns)) (omega (arith, le))) ∙ ap (option_map (λ i. suc i)) (sym (ap (λ b. cond b (Some k) None) f) ∙ rest))
+    place : ℕ → Option ℕ
+    place i = cond (nat_lt i (length (m ∷ ns))) (Some i) None
+
+    next : (c : Bool) → nat_lt k (length ns) ≡ c → place (1 + k) ≡ option_map (λ i. suc i) (cond c (Some k) None)
+    next true f = let lt = ltb-true k (length ns) f in let one : 1 + k ≡ suc k = omega arith in ap (λ b. cond b (Some (1 + k)) None) (lt-ltb (1 + k) (length (m ∷ ns)) (omega (arith, lt))) ∙ ap Some one
+    next false f = let le = ltb-false k (length ns) f in ap (λ b. cond b (Some (1 + k)) None) (le-ltb (1 + k) (length (m ∷ ns)) (omega (arith, le)))
+
+    go : (b : Bool) → nat_eq n m ≡ b → position (nat_eq n) ns ≡ place_in ns n → position (nat_eq n) (m ∷ ns) ≡ cond b (Some 0) (option_map (λ i. suc i) (place_in ns n))
+    go true e rest = ap (λ b. place (cond (not b) (1 + k) 0)) e ∙ ap (λ b. cond b (Some 0) None) (lt-ltb 0 (length (m ∷ ns)) (omega arith))
+    go false e rest = ap (λ b. place (cond (not b) (1 + k) 0)) e ∙ (next (nat_lt k (length ns)) refl ∙ ap (option_map (λ i. suc i)) rest)
 
 -- ---- a value's events
 
@@ -190,33 +186,23 @@ mutual
   branches_numbered ns Done first h = (tt, tt)
   branches_numbered ns (Branch a x bs) first h = (tt, all_append (EventIsNumbered ns) (events x) (events_of false bs) (tree_numbered ns x h.0) (branches_numbered ns bs false h.1))
 
--- numbers that a tree has stand for themselves in the renumbered one
+-- numbers that a tree has stand for themselves in the renumbered one, and the other way round
 mutual
-  to_themselves : (f : ℕ → ℕ) (t : Outline ℕ) → AreNumbers f t → AreNumbers (λ n. n) (renumbered f t)
-  to_themselves f (Leaf c) h = tt
-  to_themselves f (Again i) h = h
-  to_themselves f (Begun i bs) h = all_to_themselves f bs h
+  themselves : (f : ℕ → ℕ) (t : Outline ℕ) → (AreNumbers f t → AreNumbers (λ n. n) (renumbered f t)) × (AreNumbers (λ n. n) (renumbered f t) → AreNumbers f t)
+  themselves f (Leaf c) = ((λ h. tt), (λ h. tt))
+  themselves f (Again i) = ((λ h. h), (λ h. h))
+  themselves f (Begun i bs) = all_themselves f bs
 
-  all_to_themselves : (f : ℕ → ℕ) (bs : Branches ℕ) → AreNumbersOf f bs → AreNumbersOf (λ n. n) (renumbered_all f bs)
-  all_to_themselves f Done h = tt
-  all_to_themselves f (Branch a x bs) h = (to_themselves f x h.0, all_to_themselves f bs h.1)
-
-mutual
-  from_themselves : (f : ℕ → ℕ) (t : Outline ℕ) → AreNumbers (λ n. n) (renumbered f t) → AreNumbers f t
-  from_themselves f (Leaf c) h = tt
-  from_themselves f (Again i) h = h
-  from_themselves f (Begun i bs) h = all_from_themselves f bs h
-
-  all_from_themselves : (f : ℕ → ℕ) (bs : Branches ℕ) → AreNumbersOf (λ n. n) (renumbered_all f bs) → AreNumbersOf f bs
-  all_from_themselves f Done h = tt
-  all_from_themselves f (Branch a x bs) h = (from_themselves f x h.0, all_from_themselves f bs h.1)
+  all_themselves : (f : ℕ → ℕ) (bs : Branches ℕ) → (AreNumbersOf f bs → AreNumbersOf (λ n. n) (renumbered_all f bs)) × (AreNumbersOf (λ n. n) (renumbered_all f bs) → AreNumbersOf f bs)
+  all_themselves f Done = ((λ h. tt), (λ h. tt))
+  all_themselves f (Branch a x bs) = let one = themselves f x in let more = all_themselves f bs in ((λ h. (one.0 h.0, more.0 h.1)), (λ h. (one.1 h.0, more.1 h.1)))
 
 -- each node that stands again has a number
 pub again_numbered : (l : Look) (S : Structure) (v : Value) → IsStructure S → IsValue S v → EventsAreNumbered (kept (repeats (tree_of l S v)) (visits (tree_of l S v))) (events (tree_of l S v))
 again_numbered l S v s p =
     let key = keyed.tree_of l S v in
-    let numbers : AreNumbers (λ n. n) (outline l S v) = subst (AreNumbers (λ n. n)) (sym (outline_is l S v s p)) (to_themselves (number_in key) key (tree_numbers l S v s p)) in
-    tree_numbered (kept (repeats (tree_of l S v)) (visits (tree_of l S v))) (tree_of l S v) (from_themselves (number_in (tree_of l S v)) (tree_of l S v) numbers)
+    let numbers : AreNumbers (λ n. n) (outline l S v) = subst (AreNumbers (λ n. n)) (sym (outline_is l S v s p)) ((themselves (number_in key) key).0 (tree_numbers l S v s p)) in
+    tree_numbered (kept (repeats (tree_of l S v)) (visits (tree_of l S v))) (tree_of l S v) ((themselves (number_in (tree_of l S v)) (tree_of l S v)).1 numbers)
 
 -- ---- the text of events, one after another
 
