@@ -1,6 +1,7 @@
 -- What the reader of canonical texts finds, one thing after another.
 --     IsLookOf      a Look that has the texts of a table
 --     IsItem        what stands at the front of a text that some Look gives
+--     HasGrown      the table kept its texts and got few
 --     IsFurther     the table grew by no more than the text got shorter
 use Rattle.std.specs.Prelude.{◌≡◌, ℕ, ◌+◌, ◌<◌, ◌≤◌, ◌^◌, Bool, true, false, List, [], ◌∷◌, ◌++◌, length, slice_get, Option, Some, None}
 use denote.Ref.{Bor}
@@ -56,7 +57,7 @@ abbrev pub IsSymbolFront : List (List ℕ) → List ℕ → Option (Id × Bor (L
 IsSymbolFront table bs None = (t r : List ℕ) → printed t ++ r ≡ bs → printed_front bs ≡ Some (record { it = t; rest = r }) → ⊥
 IsSymbolFront table bs (Some x) = (t : List ℕ) × (slice_get table x.0.0 ≡ Some t) × (printed_front bs ≡ Some (record { it = t; rest = x.1.now }))
 
--- the table kept its texts, and got no more of them than the text has bytes
+-- the table kept its texts, and got no more new ones than the text has bytes
 pub record HasGrown (old new : List (List ℕ)) (bs : List ℕ) : Type 0 where
   pub table : Extends old new
   pub limit : length new ≤ length old + length bs
