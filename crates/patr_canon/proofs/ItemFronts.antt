@@ -1,5 +1,5 @@
 -- What stands at the front of a canonical text is what the reader finds there.
-use Rattle.std.proofs.Common.{◌≡◌, ◌⊎◌, inl, inr, ℕ, zero, suc, ◌+◌, ◌*◌, ◌-◌, ◌<◌, ◌≤◌, ◌^◌, Bool, true, false, cond, nat_eq, eqb-true, eq-eqb, true≢false, List, [], ◌∷◌, ◌++◌, length, append_assoc, Option, Some, None, option_map, refl, sym, ap, ◌∙◌, subst, arith, ne_eqb}
+use Rattle.std.proofs.Common.{◌≡◌, ◌⊎◌, inl, inr, ℕ, suc, ◌+◌, ◌*◌, ◌-◌, ◌<◌, ◌≤◌, ◌^◌, Bool, true, false, cond, nat_eq, eqb-true, eq-eqb, true≢false, List, [], ◌∷◌, ◌++◌, length, append_assoc, Option, Some, None, option_map, refl, sym, ap, ◌∙◌, subst, arith, ne_eqb}
 use denote.Ref.{Bor}
 use Rattle.patr_canon.proofs.Names.{Closes, Event, EventFits, Id, IsArcFront, IsBareFront, IsItem, IsLookOf, IsNumberItem, IsNumbered, IsQuotedFront, IsSymbolFront, Look, OfAgain, OfArc, OfAtom, Opens, event_seen, expect_in, is_digit, printed, reads, some_inj}
 use Rattle.patr_model.specs.Items.{AValue, Follows, Item, AnAtom, AnAgain, AnOpening, item_of, item_front, number_item, with_number, value_item, text_of}

@@ -1,5 +1,5 @@
 -- The nodes that have numbers.
-use Rattle.std.proofs.Common.{◌≡◌, ℕ, zero, suc, ◌+◌, ◌<◌, ◌≤◌, Bool, true, false, cond, not, ◌||◌, nat_eq, nat_lt, ltb-true, ltb-false, lt-ltb, true≢false, List, [], ◌∷◌, ◌++◌, append-nil, flat_map, length, take, drop, get_or, Option, Some, None, option_map, is_some, slice_get, refl, sym, ap, ◌∙◌, subst, arith}
+use Rattle.std.proofs.Common.{◌≡◌, ℕ, zero, suc, ◌+◌, ◌<◌, Bool, true, false, cond, not, ◌||◌, nat_eq, nat_lt, ltb-true, ltb-false, lt-ltb, le-ltb, true≢false, List, [], ◌∷◌, ◌++◌, append-nil, flat_map, length, take, drop, get_or, Option, Some, None, option_map, is_some, slice_get, refl, sym, ap, ◌∙◌, subst, arith}
 use Rattle.std.proofs.lemmas.Grind.{flat_map-append}
 use Rattle.patr_lists.proofs.Alls.{all_append}
 use Rattle.patr_canon.proofs.Names.{Again, AllByRecursion, AreOnce, Begun, Branch, Branches, Closes, Done, Event, EventIsNumbered, EventsAreNumbered, EventsTell, IsDone, IsStructure, IsValue, Leaf, Look, OfAgain, OfArc, OfAtom, Opens, Outline, Structure, Value, again_of, append_assoc, canonical, drop_more, event_seen, event_text, events, events_of, events_seen, from_one, kept, list_any, map-append, met_again, number_by, number_in, opened, opened_of, outline, place_in, place_longer, place_there, position, position_or_len, renumbered, renumbered_all, repeats, some_inj, take-append-drop, take_more, tree_of, visits}
@@ -17,46 +17,49 @@ abbrev listed : Option ℕ → List ℕ
 listed None = []
 listed (Some n) = n ∷ []
 
-again_more : (es : List Event) (e : Event) → met_again (es ++ e ∷ []) ≡ met_again es ++ listed (again_of e)
-again_more [] (OfAtom c) = refl
-again_more [] (OfAgain n) = refl
-again_more [] (Opens n) = refl
-again_more [] (OfArc first a) = refl
-again_more [] Closes = refl
-again_more (OfAtom c ∷ es) e = again_more es e
-again_more (OfAgain n ∷ es) e = ap (λ ns. n ∷ ns) (again_more es e)
-again_more (Opens n ∷ es) e = again_more es e
-again_more (OfArc first a ∷ es) e = again_more es e
-again_more (Closes ∷ es) e = again_more es e
+-- nodes that are met again, and nodes that begin, are what each event gives
+again_is : (es : List Event) → met_again es ≡ flat_map (λ e. listed (again_of e)) es
+again_is [] = refl
+again_is (OfAtom c ∷ es) = again_is es
+again_is (OfAgain n ∷ es) = ap (λ ns. n ∷ ns) (again_is es)
+again_is (Opens n ∷ es) = again_is es
+again_is (OfArc first a ∷ es) = again_is es
+again_is (Closes ∷ es) = again_is es
 
-opened_one : (e : Event) → opened (e ∷ []) ≡ listed (opened_of e)
-opened_one (OfAtom c) = refl
-opened_one (OfAgain n) = refl
-opened_one (Opens n) = refl
-opened_one (OfArc first a) = refl
-opened_one Closes = refl
+opened_is : (es : List Event) → opened es ≡ flat_map (λ e. listed (opened_of e)) es
+opened_is [] = refl
+opened_is (OfAtom c ∷ es) = opened_is es
+opened_is (OfAgain n ∷ es) = opened_is es
+opened_is (Opens n ∷ es) = ap (λ ns. n ∷ ns) (opened_is es)
+opened_is (OfArc first a ∷ es) = opened_is es
+opened_is (Closes ∷ es) = opened_is es
 
-opened_more : (es : List Event) (e : Event) → opened (es ++ e ∷ []) ≡ opened es ++ listed (opened_of e)
-opened_more es e = opened_append es (e ∷ []) ∙ ap (λ ns. opened es ++ ns) (opened_one e)
+-- what one event more gives
+module _ (es : List its.Event) (i : ℕ) (d : its.Event) (h : i < length es) where
+  given_more : (f : Event → List ℕ) → flat_map f (events_seen (take (i + 1) es)) ≡ flat_map f (events_seen (take i es)) ++ f (event_seen (get_or es i d))
+  given_more f =
+      ap (flat_map f) (ap events_seen (take_more es i d h) ∙ map-append event_seen (take i es) (get_or es i d ∷ []))
+      ∙ (flat_map-append f (events_seen (take i es)) (event_seen (get_or es i d) ∷ []) ∙ ap (λ t. flat_map f (events_seen (take i es)) ++ t) (append-nil (f (event_seen (get_or es i d)))))
 
-seen_more : (es : List its.Event) (i : ℕ) (d : its.Event) → i < length es → events_seen (take (i + 1) es) ≡ events_seen (take i es) ++ event_seen (get_or es i d) ∷ []
-seen_more es i d h = ap events_seen (take_more es i d h) ∙ map-append event_seen (take i es) (get_or es i d ∷ [])
+  again_taken : (o : Option ℕ) → o ≡ again_of (event_seen (get_or es i d)) → met_again (events_seen (take (i + 1) es)) ≡ met_again (events_seen (take i es)) ++ listed o
+  again_taken o e =
+      again_is (events_seen (take (i + 1) es)) ∙ (given_more (λ x. listed (again_of x))
+      ∙ (ap (λ ns. ns ++ listed (again_of (event_seen (get_or es i d)))) (sym (again_is (events_seen (take i es)))) ∙ ap (λ u. met_again (events_seen (take i es)) ++ listed u) (sym e)))
 
-again_taken : (es : List its.Event) (i : ℕ) (d : its.Event) (o : Option ℕ) → i < length es → o ≡ again_of (event_seen (get_or es i d)) → met_again (events_seen (take (i + 1) es)) ≡ met_again (events_seen (take i es)) ++ listed o
-again_taken es i d o h e = ap met_again (seen_more es i d h) ∙ (again_more (events_seen (take i es)) (event_seen (get_or es i d)) ∙ ap (λ u. met_again (events_seen (take i es)) ++ listed u) (sym e))
-
-opened_taken : (es : List its.Event) (i : ℕ) (d : its.Event) (o : Option ℕ) → i < length es → o ≡ opened_of (event_seen (get_or es i d)) → opened (events_seen (take (i + 1) es)) ≡ opened (events_seen (take i es)) ++ listed o
-opened_taken es i d o h e = ap opened (seen_more es i d h) ∙ (opened_more (events_seen (take i es)) (event_seen (get_or es i d)) ∙ ap (λ u. opened (events_seen (take i es)) ++ listed u) (sym e))
+  opened_taken : (o : Option ℕ) → o ≡ opened_of (event_seen (get_or es i d)) → opened (events_seen (take (i + 1) es)) ≡ opened (events_seen (take i es)) ++ listed o
+  opened_taken o e =
+      opened_is (events_seen (take (i + 1) es)) ∙ (given_more (λ x. listed (opened_of x))
+      ∙ (ap (λ ns. ns ++ listed (opened_of (event_seen (get_or es i d)))) (sym (opened_is (events_seen (take i es)))) ∙ ap (λ u. opened (events_seen (take i es)) ++ listed u) (sym e)))
 
 -- ---- the nodes that are met again
 
 pub again_kept : {S : Type 0} (es : List its.Event) (i : ℕ) (d : its.Event) (set : HashSet ℕ S) → i < length es → None ≡ again_of (event_seen (get_or es i d)) → IsDone set (met_again (events_seen (take i es)))
     → IsDone set (met_again (events_seen (take (i + 1) es)))
-again_kept es i d set h e done = subst (IsDone set) (sym (again_taken es i d None h e ∙ append-nil (met_again (events_seen (take i es))))) done
+again_kept es i d set h e done = subst (IsDone set) (sym (again_taken es i d h None e ∙ append-nil (met_again (events_seen (take i es))))) done
 
 pub again_added : {S : Type 0} (es : List its.Event) (i : ℕ) (d : its.Event) (set new : HashSet ℕ S) (n : ℕ) → i < length es → Some n ≡ again_of (event_seen (get_or es i d)) → IsDone set (met_again (events_seen (take i es)))
     → ((q : ℕ) → contains nat_eq new q ≡ cond (nat_eq n q) true (contains nat_eq set q)) → IsDone new (met_again (events_seen (take (i + 1) es)))
-again_added es i d set new n h e done updates = subst (IsDone new) (sym (again_taken es i d (Some n) h e)) (done_more set new (met_again (events_seen (take i es))) n done updates)
+again_added es i d set new n h e done updates = subst (IsDone new) (sym (again_taken es i d h (Some n) e)) (done_more set new (met_again (events_seen (take i es))) n done updates)
 
 -- ---- the nodes that have numbers
 
@@ -98,12 +101,12 @@ not_kept these (m ∷ ns) n h = go (is_some (place_in these m)) (nat_eq n m) ref
 
 module _ (these : List ℕ) (es : List its.Event) (i : ℕ) (d : its.Event) (h : i < length es) where
   pub numbered_kept : (keys : List ℕ) → None ≡ opened_of (event_seen (get_or es i d)) → keys ≡ kept these (opened (events_seen (take i es))) → keys ≡ kept these (opened (events_seen (take (i + 1) es)))
-  numbered_kept keys e same = same ∙ ap (kept these) (sym (opened_taken es i d None h e ∙ append-nil (opened (events_seen (take i es)))))
+  numbered_kept keys e same = same ∙ ap (kept these) (sym (opened_taken es i d h None e ∙ append-nil (opened (events_seen (take i es)))))
 
   pub numbered_left : (keys : List ℕ) (n : ℕ) → Some n ≡ opened_of (event_seen (get_or es i d)) → is_some (place_in these n) ≡ false → keys ≡ kept these (opened (events_seen (take i es)))
       → keys ≡ kept these (opened (events_seen (take (i + 1) es)))
   numbered_left keys n e none same =
-      same ∙ sym (ap (kept these) (opened_taken es i d (Some n) h e) ∙ (kept_more these (opened (events_seen (take i es))) n
+      same ∙ sym (ap (kept these) (opened_taken es i d h (Some n) e) ∙ (kept_more these (opened (events_seen (take i es))) n
       ∙ (ap (λ b. kept these (opened (events_seen (take i es))) ++ cond b (n ∷ []) []) none ∙ append-nil (kept these (opened (events_seen (take i es)))))))
 
   -- what is opened at i, and what before and behind it
@@ -115,11 +118,7 @@ module _ (these : List ℕ) (es : List its.Event) (i : ℕ) (d : its.Event) (h :
       ∙ ap (λ xs. opened (events_seen (take i es)) ++ xs) (ap (λ xs. opened (events_seen xs)) (drop_more es i d h) ∙ first (event_seen (get_or es i d)) (events_seen (drop (i + 1) es)) e)))
     where
       first : (x : Event) (xs : List Event) → Some n ≡ opened_of x → opened (x ∷ xs) ≡ n ∷ opened xs
-      first (OfAtom c) xs q = cc
-      first (OfAgain m) xs q = cc
-      first (Opens m) xs q = ap (λ k. k ∷ opened xs) (sym (some_inj n m q))
-      first (OfArc f a) xs q = cc
-      first Closes xs q = cc
+      first x xs q = opened_is (x ∷ xs) ∙ (ap (λ o. listed o ++ flat_map (λ e. listed (opened_of e)) xs) (sym q) ∙ ap (λ ns. n ∷ ns) (sym (opened_is xs)))
 
   pub numbered_added : (keys new : List ℕ) (n : ℕ) → AreOnce (opened (events_seen es)) → Some n ≡ opened_of (event_seen (get_or es i d)) → is_some (place_in these n) ≡ true → keys ≡ kept these (opened (events_seen (take i es)))
       → new ≡ cond (list_any (nat_eq n) keys) keys (keys ++ n ∷ []) → new ≡ kept these (opened (events_seen (take (i + 1) es)))
@@ -128,38 +127,27 @@ module _ (these : List ℕ) (es : List its.Event) (i : ℕ) (d : its.Event) (h :
       let no : list_any (nat_eq n) before ≡ false = any_placed before n ∙ ap is_some (once before (opened (events_seen (drop (i + 1) es))) n (opened_around n e)) in
       is ∙ (ap (λ ks. cond (list_any (nat_eq n) ks) ks (ks ++ n ∷ [])) same
       ∙ (ap (λ b. cond b (kept these before) (kept these before ++ n ∷ [])) (not_kept these before n no)
-      ∙ sym (ap (kept these) (opened_taken es i d (Some n) h e) ∙ (kept_more these before n ∙ ap (λ b. kept these before ++ cond b (n ∷ []) []) there))))
+      ∙ sym (ap (kept these) (opened_taken es i d h (Some n) e) ∙ (kept_more these before n ∙ ap (λ b. kept these before ++ cond b (n ∷ []) []) there))))
 
 -- ---- the place of a node
 
 pub placed_at : (ns : List ℕ) (n : ℕ) → position (nat_eq n) ns ≡ place_in ns n
 placed_at [] n = refl
-placed_at (m ∷ ns) n = go (nat_eq n m) refl (nat_lt (position_or_len (nat_eq n) ns) (length ns)) refl (placed_at ns n)
+placed_at (m ∷ ns) n = go (nat_eq n m) refl (placed_at ns n)
   where
     k : ℕ
     k = position_or_len (nat_eq n) ns
 
-    not_less : (i j : ℕ) → j ≤ i → nat_lt i j ≡ false
-    not_less i j h = test (nat_lt i j) refl
-      where
-        test : (b : Bool) → nat_lt i j ≡ b → b ≡ false
-        test true e = let lt = ltb-true i j e in absurd (omega (arith, h, lt))
-        test false e = refl
+    place : ℕ → Option ℕ
+    place i = cond (nat_lt i (length (m ∷ ns))) (Some i) None
 
-    go : (b : Bool) → nat_eq n m ≡ b → (c : Bool) → nat_lt k (length ns) ≡ c → cond (nat_lt k (length ns)) (Some k) None ≡ place_in ns n
-        → position (nat_eq n) (m ∷ ns) ≡ cond b (Some 0) (option_map (λ i. suc i) (place_in ns n))
-    go true e c f rest =
-        ap (λ b. cond (nat_lt (cond (not b) (1 + k) 0) (length (m ∷ ns))) (Some (cond (not b) (1 + k) 0)) None) e ∙ ap (λ b. cond b (Some 0) None) (lt-ltb 0 (length (m ∷ ns)) (omega arith))
-    go false e true f rest =
-        let lt = ltb-true k (length ns) f in
-        let one : 1 + k ≡ suc k = omega arith in
-        ap (λ b. cond (nat_lt (cond (not b) (1 + k) 0) (length (m ∷ ns))) (Some (cond (not b) (1 + k) 0)) None) e
-        ∙ (ap (λ b. cond b (Some (1 + k)) None) (lt-ltb (1 + k) (length (m ∷ ns)) (omega (arith, lt)))
-        ∙ (ap Some one ∙ ap (option_map (λ i. suc i)) (sym (ap (λ b. cond b (Some k) None) f) ∙ rest)))
-    go false e false f rest =
-        let le = ltb-false k (length ns) f in
-        ap (λ b. cond (nat_lt (cond (not b) (1 + k) 0) (length (m ∷ ns))) (Some (cond (not b) (1 + k) 0)) None) e
-        ∙ (ap (λ b. cond b (Some (1 + k)) None) (not_less (1 + k) (length (m ∷ ns)) (omega (arith, le))) ∙ ap (option_map (λ i. suc i)) (sym (ap (λ b. cond b (Some k) None) f) ∙ rest))
+    next : (c : Bool) → nat_lt k (length ns) ≡ c → place (1 + k) ≡ option_map (λ i. suc i) (cond c (Some k) None)
+    next true f = let lt = ltb-true k (length ns) f in let one : 1 + k ≡ suc k = omega arith in ap (λ b. cond b (Some (1 + k)) None) (lt-ltb (1 + k) (length (m ∷ ns)) (omega (arith, lt))) ∙ ap Some one
+    next false f = let le = ltb-false k (length ns) f in ap (λ b. cond b (Some (1 + k)) None) (le-ltb (1 + k) (length (m ∷ ns)) (omega (arith, le)))
+
+    go : (b : Bool) → nat_eq n m ≡ b → position (nat_eq n) ns ≡ place_in ns n → position (nat_eq n) (m ∷ ns) ≡ cond b (Some 0) (option_map (λ i. suc i) (place_in ns n))
+    go true e rest = ap (λ b. place (cond (not b) (1 + k) 0)) e ∙ ap (λ b. cond b (Some 0) None) (lt-ltb 0 (length (m ∷ ns)) (omega arith))
+    go false e rest = ap (λ b. place (cond (not b) (1 + k) 0)) e ∙ (next (nat_lt k (length ns)) refl ∙ ap (option_map (λ i. suc i)) rest)
 
 -- ---- a value's events
 
@@ -198,33 +186,23 @@ mutual
   branches_numbered ns Done first h = (tt, tt)
   branches_numbered ns (Branch a x bs) first h = (tt, all_append (EventIsNumbered ns) (events x) (events_of false bs) (tree_numbered ns x h.0) (branches_numbered ns bs false h.1))
 
--- numbers that a tree has stand for themselves in the renumbered one
+-- numbers that a tree has stand for themselves in the renumbered one, and the other way round
 mutual
-  to_themselves : (f : ℕ → ℕ) (t : Outline ℕ) → AreNumbers f t → AreNumbers (λ n. n) (renumbered f t)
-  to_themselves f (Leaf c) h = tt
-  to_themselves f (Again i) h = h
-  to_themselves f (Begun i bs) h = all_to_themselves f bs h
+  themselves : (f : ℕ → ℕ) (t : Outline ℕ) → (AreNumbers f t → AreNumbers (λ n. n) (renumbered f t)) × (AreNumbers (λ n. n) (renumbered f t) → AreNumbers f t)
+  themselves f (Leaf c) = ((λ h. tt), (λ h. tt))
+  themselves f (Again i) = ((λ h. h), (λ h. h))
+  themselves f (Begun i bs) = all_themselves f bs
 
-  all_to_themselves : (f : ℕ → ℕ) (bs : Branches ℕ) → AreNumbersOf f bs → AreNumbersOf (λ n. n) (renumbered_all f bs)
-  all_to_themselves f Done h = tt
-  all_to_themselves f (Branch a x bs) h = (to_themselves f x h.0, all_to_themselves f bs h.1)
-
-mutual
-  from_themselves : (f : ℕ → ℕ) (t : Outline ℕ) → AreNumbers (λ n. n) (renumbered f t) → AreNumbers f t
-  from_themselves f (Leaf c) h = tt
-  from_themselves f (Again i) h = h
-  from_themselves f (Begun i bs) h = all_from_themselves f bs h
-
-  all_from_themselves : (f : ℕ → ℕ) (bs : Branches ℕ) → AreNumbersOf (λ n. n) (renumbered_all f bs) → AreNumbersOf f bs
-  all_from_themselves f Done h = tt
-  all_from_themselves f (Branch a x bs) h = (from_themselves f x h.0, all_from_themselves f bs h.1)
+  all_themselves : (f : ℕ → ℕ) (bs : Branches ℕ) → (AreNumbersOf f bs → AreNumbersOf (λ n. n) (renumbered_all f bs)) × (AreNumbersOf (λ n. n) (renumbered_all f bs) → AreNumbersOf f bs)
+  all_themselves f Done = ((λ h. tt), (λ h. tt))
+  all_themselves f (Branch a x bs) = let one = themselves f x in let more = all_themselves f bs in ((λ h. (one.0 h.0, more.0 h.1)), (λ h. (one.1 h.0, more.1 h.1)))
 
 -- each node that stands again has a number
 pub again_numbered : (l : Look) (S : Structure) (v : Value) → IsStructure S → IsValue S v → EventsAreNumbered (kept (repeats (tree_of l S v)) (visits (tree_of l S v))) (events (tree_of l S v))
 again_numbered l S v s p =
     let key = keyed.tree_of l S v in
-    let numbers : AreNumbers (λ n. n) (outline l S v) = subst (AreNumbers (λ n. n)) (sym (outline_is l S v s p)) (to_themselves (number_in key) key (tree_numbers l S v s p)) in
-    tree_numbered (kept (repeats (tree_of l S v)) (visits (tree_of l S v))) (tree_of l S v) (from_themselves (number_in (tree_of l S v)) (tree_of l S v) numbers)
+    let numbers : AreNumbers (λ n. n) (outline l S v) = subst (AreNumbers (λ n. n)) (sym (outline_is l S v s p)) ((themselves (number_in key) key).0 (tree_numbers l S v s p)) in
+    tree_numbered (kept (repeats (tree_of l S v)) (visits (tree_of l S v))) (tree_of l S v) ((themselves (number_in (tree_of l S v)) (tree_of l S v)).1 numbers)
 
 -- ---- the text of events, one after another
 
@@ -237,9 +215,7 @@ pub text_more : (f : Event → List ℕ) (es : List its.Event) (i : ℕ) (d : it
     → text ++ f (event_seen (get_or es i d)) ≡ old ++ flat_map f (events_seen (take (i + 1) es))
 text_more f es i d old text h e =
     ap (λ t. t ++ f (event_seen (get_or es i d))) e
-    ∙ (append_assoc old (flat_map f (events_seen (take i es))) (f (event_seen (get_or es i d)))
-    ∙ ap (λ t. old ++ t) (ap (λ t. flat_map f (events_seen (take i es)) ++ t) (sym (append-nil (f (event_seen (get_or es i d)))))
-    ∙ (sym (flat_map-append f (events_seen (take i es)) (event_seen (get_or es i d) ∷ [])) ∙ ap (flat_map f) (sym (seen_more es i d h)))))
+    ∙ (append_assoc old (flat_map f (events_seen (take i es))) (f (event_seen (get_or es i d))) ∙ ap (λ t. old ++ t) (sym (given_more es i d h f)))
 
 -- ---- what was met, where it is a value's events
 

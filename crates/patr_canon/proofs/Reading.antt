@@ -1,15 +1,12 @@
 -- What the reader has after an event.
 use Rattle.std.proofs.Common.{◌≡◌, ℕ, ◌+◌, List, [], ◌∷◌, ◌++◌, map, length, Option, Vec, sym, ap, ◌∙◌}
-use Rattle.patr_canon.proofs.Names.{Global, Link, Node, Value, end_node, half_seen, length-append, length-map, link_seen, links_seen, map-append, nodes_seen, put_value, reverse-append, stack_seen}
+use Rattle.patr_canon.proofs.Names.{Global, Link, Node, Value, end_node, half_seen, length-append, length-map, links_seen, map-append, nodes_seen, put_value, reverse-append, stack_seen}
 use Rattle.patr_canon.specs.declared.reader.Begun.{Begun}
 
 -- ---- the begun nodes
 
 pub one_begun : (bs : List Begun) (b : Begun) → stack_seen (bs ++ b ∷ []) ≡ half_seen b ∷ stack_seen bs
 one_begun bs b = ap (map half_seen) (reverse-append bs (b ∷ []))
-
-pub links_more : (links : List Link) (a : Link) → links_seen (links ++ a ∷ []) ≡ links_seen links ++ link_seen a ∷ []
-links_more links a = map-append link_seen links (a ∷ [])
 
 pub nodes_more : (nodes : List (Vec Link Global)) (links : Vec Link Global) → nodes_seen (nodes ++ links ∷ []) ≡ nodes_seen nodes ++ links_seen links.items ∷ []
 nodes_more nodes links = map-append (λ links. links_seen links.items) nodes (links ∷ [])

@@ -1,8 +1,9 @@
 -- Nodes whose arcs stand in another order are the same structure.
-use Rattle.std.proofs.Common.{◌≡◌, ℕ, zero, suc, ◌+◌, ◌<◌, Bool, true, false, cond, nat_lt, ltb-true, lt-ltb, List, [], ◌∷◌, map, length, slice_get, Option, Some, None, Vec, refl, sym, ap, ◌∙◌, subst, arith}
+use Rattle.std.proofs.Common.{◌≡◌, ℕ, zero, suc, ◌+◌, ◌<◌, List, [], ◌∷◌, map, length, slice_get, Option, Some, None, Vec, refl, sym, ap, ◌∙◌, arith}
 use Rattle.std.proofs.lemmas.Option.{slice_get-get_or}
-use Rattle.patr_canon.proofs.Names.{All-from_recursion, All-permutation, AllByRecursion, Arcs, ArcsAreBelow, AreMoved, Atom, Feature, GiveOneText, Global, HasDistinct, IsBelow, IsLookOf, IsRefBelow, IsStructure, IsValue, Link, Look, Node, NodeIsBelow, NodesAreBelow, OfSymbols, OfValue, Structure, Target, Value, arc, arcs_from, arcs_of, below_more_places, feature_seen, length-map, links_seen, nodes_seen, nothing, recursion_from_All, ref_seen, some_inj, table_look, target_seen, text_or, total, zeros}
-use Rattle.patr_model.specs.Subsumption.{MapsInto, image}
+use Rattle.patr_canon.proofs.Names.{All-from_recursion, All-permutation, AllByRecursion, Arcs, ArcsAreBelow, AreMoved, Atom, Feature, GiveOneText, Global, HasDistinct, IsLookOf, IsRefBelow, IsStructure, IsValue, Link, Look, Node, NodeIsBelow, NodesAreBelow, OfSymbols, OfValue, Structure, Target, Value, arc, arcs_from, arcs_of, feature_seen, length-map, links_seen, nodes_seen, nothing, recursion_from_All, ref_seen, table_look, target_seen, text_or, total, zeros}
+use Rattle.patr_model.proofs.Maps.{maps_into_itself}
+use Rattle.patr_model.specs.Subsumption.{MapsInto}
 use Rattle.patr_canon.specs.declared.reader.Target.TheVariants as target
 use Rattle.patr_canon.proofs.Renumbered.{moved_arcs}
 use Rattle.patr_canon.proofs.Orders.{moved_along}
@@ -10,37 +11,8 @@ use Rattle.patr_canon.proofs.Spelled.{nodes_below}
 
 -- ---- arcs that lead where others lead
 
-here : ℕ → ℕ → Option Value
-here k n = cond (nat_lt n k) (Some (Node n)) None
-
-here_is : (k n : ℕ) → n < k → here k n ≡ Some (Node n)
-unfolding here
-here_is k n h = ap (λ b. cond b (Some (Node n)) None) (lt-ltb n k h)
-
-here_only : (k n : ℕ) (y : Value) → here k n ≡ Some y → (n < k) × (y ≡ Node n)
-unfolding here
-here_only k n y e = go (nat_lt n k) refl e
-  where
-    go : (b : Bool) → nat_lt n k ≡ b → cond b (Some (Node n)) None ≡ Some y → (n < k) × (y ≡ Node n)
-    go true t h = (ltb-true n k t, sym (some_inj (Node n) y h))
-    go false t h = cc
-
-image_here : (k : ℕ) (x : Value) → IsBelow k x → image (here k) x ≡ Some x
-image_here k (Atom c) h = refl
-image_here k (Node n) h = here_is k n h
-
 pub one_way : (S G : Structure) → IsStructure S → length S ≡ length G → ((n a : ℕ) → arc S (Node n) a ≡ arc G (Node n) a) → (v : Value) → IsValue S v → MapsInto S v G v
-one_way S G s len same v h = record {
-  by = here (length S);
-  is_map = record {
-    values = λ n y e. let o = here_only (length S) n y e in subst (λ u. IsValue G u) (sym o.1) (let lt = o.0 in omega (arith, lt, len));
-    arcs = λ n y e a x k.
-        let o = here_only (length S) n y e in
-        let b = below_more_places n (length S) x (s.lower n a x k) (let lt = o.0 in omega (arith, lt)) in
-        (x, image_here (length S) x b, ap (λ u. arc G u a) o.1 ∙ (sym (same n a) ∙ k));
-  };
-  root = image_here (length S) v h;
-}
+one_way S G s len same v h = maps_into_itself S G v s (omega (arith, len)) (λ n a x lt e. sym (same n a) ∙ e) h
 
 -- ---- the block of nodes
 

@@ -1,6 +1,7 @@
 -- Values whose symbols have texts.
-use Rattle.std.proofs.Common.{◌≡◌, ℕ, zero, suc, ◌<◌, ◌≤◌, Bool, true, false, cond, nat_eq, eqb-true, List, [], ◌∷◌, ◌++◌, map, Option, Some, None, option_and_then, refl, subst, arith}
-use Rattle.patr_canon.proofs.Names.{AllByRecursion, AllOldHeld, Arcs, AreSpelled, Atom, Feature, IsRefBelow, Node, NodeIsBelow, NodesAreBelow, OfValue, OldIsHeld, OldRefIsHeld, Ref, Shown, Structure, Value, along, arc, arcs_from, arcs_of, at, nothing, ref_of, some_inj, with_block}
+use Rattle.std.proofs.Common.{◌≡◌, ℕ, zero, suc, ◌<◌, ◌≤◌, Bool, true, false, cond, nat_eq, eqb-true, List, [], ◌∷◌, map, Option, Some, None, option_and_then, refl, subst, arith}
+use Rattle.patr_lists.proofs.Alls.{all_map}
+use Rattle.patr_canon.proofs.Names.{AllByRecursion, AllOldHeld, Arcs, AreSpelled, Atom, Feature, IsRefBelow, Node, NodeIsBelow, NodesAreBelow, OfValue, OldIsHeld, OldRefIsHeld, Ref, Shown, Structure, Value, along, arc, arc_from, arcs_from, arcs_of, at, nothing, ref_of, some_inj, with_block}
 use Rattle.patr_arena.specs.declared.value.Ref.TheVariants as ref
 
 arc_all : (P : ℕ → Type 0) (es : Arcs) (a : ℕ) (x : Value) → AllByRecursion (λ e. P e.attribute × OfValue P e.to) es → along es a ≡ Some x → P a × OfValue P x
@@ -42,8 +43,7 @@ refs_below n (ref.Old at) h = absurd h
 refs_below n (ref.New k) h = tt
 
 node_below : (n : ℕ) (fs : List Feature) → NodeIsBelow n fs → AllByRecursion (λ e. (e.attribute < n) × OfValue (λ c. c < n) e.to) (arcs_from nothing 0 fs)
-node_below n [] h = tt
-node_below n (f ∷ fs) h = ((h.0.0, refs_below n f.to h.0.1), node_below n fs h.1)
+node_below n fs h = all_map (λ e. (e.attribute < n) × OfValue (λ c. c < n) e.to) (arc_from nothing 0) (λ (f : Feature). (f.attribute.0 < n) × IsRefBelow n f.to) (λ f k. (k.0, refs_below n f.to k.1)) fs h
 
 pub nodes_below : (n : ℕ) (nodes : List (List Feature)) → NodesAreBelow n nodes → (k : ℕ) → AllByRecursion (λ e. (e.attribute < n) × OfValue (λ c. c < n) e.to) (arcs_of (map (arcs_from nothing 0) nodes) (Node k))
 nodes_below n [] h k = tt
@@ -53,10 +53,6 @@ nodes_below n (fs ∷ nodes) h (suc k) = nodes_below n nodes h.1 k
 -- a block alone, whose attributes and atoms have texts
 pub block_spelled : (n : ℕ) (nodes : List (List Feature)) → NodesAreBelow n nodes → (v : Value) → OfValue (λ c. c < n) v → AreSpelled n (with_block nothing nodes).structure v
 block_spelled n nodes h v k = all_spelled n (map (arcs_from nothing 0) nodes) (nodes_below n nodes h) v k
-
-pub nodes_push : (n : ℕ) (nodes : List (List Feature)) (fs : List Feature) → NodesAreBelow n nodes → NodeIsBelow n fs → NodesAreBelow n (nodes ++ fs ∷ [])
-nodes_push n [] fs h k = (k, tt)
-nodes_push n (gs ∷ nodes) fs h k = (h.0, nodes_push n nodes fs h.1 k)
 
 -- and no old address
 arcs_own : (n : ℕ) (v : Shown) (fs : List Feature) → NodeIsBelow n fs → AllOldHeld v fs

@@ -1,10 +1,11 @@
 -- The reader's loop: one event after another.
-use Rattle.std.proofs.Common.{◌≡◌, ℕ, zero, suc, ◌+◌, ◌<◌, ◌≤◌, true, false, List, [], ◌∷◌, ◌++◌, length, slice_get, append_assoc, append-nil, length-append, Option, Some, None, option_map, Vec, refl, sym, ap, ◌∙◌, subst, arith}
+use Rattle.std.proofs.Common.{◌≡◌, ℕ, zero, suc, ◌+◌, ◌<◌, ◌≤◌, true, false, List, [], ◌∷◌, ◌++◌, length, slice_get, append-nil, length-append, Option, Some, None, option_map, Vec, refl, sym, ap, ◌∙◌, subst, arith}
 use Rattle.patr_lists.proofs.Alls.{all_more, all_weaker}
 use Rattle.patr_lists.proofs.Places.{get_left}
 use Rattle.patr_canon.proofs.Names.{AllByRecursion, Arcs, ArePlaces, Atom, Building, Closes, Event, EventFits, EventIsSpelled, Global, Half, HasFed, IsItem, IsLookOf, Link, Look, Node, OfAgain, OfArc, OfAtom, OfValue, Opens, Outline, Structure, Target, Value, building, building_seen, built, end_node, event_seen, events, expect_behind, fed, fed_one, nodes_seen, numbered_place, place_in, put_value, reads, set_attribute, stack_seen, target_seen}
 use Rattle.patr_model.specs.Items.{Expect, AValue, AFirst, ANext, Follows, text_of}
 use Rattle.patr_model.proofs.Building.{builds}
+use Rattle.patr_text.proofs.Extending.{extends_trans}
 use Rattle.patr_text.specs.Texts.{Extends}
 use denote.Ref.{Bor}
 use Rattle.patr_canon.specs.declared.event.Event as its
@@ -123,9 +124,6 @@ pub record IsGoing (old now : List (List ℕ)) (text : List ℕ) (r : Reader) (e
   pub below : IsBelow (length now) (building_seen r numbers)
   pub on : (o : Outline ℕ) (w : IsWritten now text o) → IsOn w.look o e (building_seen r numbers) left
 
-extends_more : (old now new : List (List ℕ)) → Extends old now → Extends now new → Extends old new
-extends_more old now new h k = (h.0 ++ k.0, k.1 ∙ (ap (λ ts. ts ++ k.0) h.1 ∙ append_assoc old h.0 k.0))
-
 extends_length : (old new : List (List ℕ)) → Extends old new → length old ≤ length new
 extends_length old new h = let len = ap length h.1 ∙ length-append old h.0 in omega (arith, len)
 
@@ -169,7 +167,7 @@ going_on old now new text r s e left event rest f going some more item spelled r
     let is_some : 0 < length new = omega (arith, before, longer) in
     let so_far = going.room in
     record {
-      table = extends_more old now new going.table more;
+      table = extends_trans old now new going.table more;
       some = is_some;
       room = omega (arith, room, so_far);
       numbers = fed.0;

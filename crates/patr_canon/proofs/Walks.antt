@@ -1,5 +1,5 @@
 -- The steps of a walk over a value.
-use Rattle.std.proofs.Common.{◌≡◌, ℕ, suc, ◌+◌, ◌<◌, ◌≤◌, Bool, true, false, cond, nat_eq, eqb-true, List, [], ◌∷◌, ◌++◌, append-nil, length, length-append, reverse, Option, Some, None, option_and_then, is_some, refl, sym, ap, ◌∙◌, subst, arith}
+use Rattle.std.proofs.Common.{◌≡◌, ℕ, suc, ◌+◌, ◌<◌, ◌≤◌, Bool, true, false, cond, nat_eq, eqb-true, ne_eqb, List, [], ◌∷◌, ◌++◌, append-nil, length, length-append, reverse, Option, Some, None, option_and_then, is_some, refl, sym, ap, ◌∙◌, subst, arith}
 use Rattle.patr_canon.proofs.Names.{All, AllByRecursion, ArcIsHeld, Arcs, AreBelow, AreSpelled, Atom, Closes, Event, EventIsSpelled, EventsAreSpelled, Id, IsDone, IsEntering, IsHeld, IsShown, IsStructure, IsWalking, Look, Node, OfAgain, OfArc, OfAtom, Opens, Shown, Structure, Task, TaskIsReady, append_assoc, arc_tasks, arcs_of, arcs_seen, at, event_seen, events, events_of, events_seen, full, in_order, left_of, length-map, list_any, look_of, map-append, number_of, place_in, recursion_from_All, reverse-append, tree_of, value_of, walk_arcs, walk_node}
 use Rattle.std.specs.HashSet.{HashSet, IsEmpty, contains}
 use Rattle.patr_lists.proofs.Alls.{all_append}
@@ -20,13 +20,6 @@ use Rattle.patr_canon.proofs.Orders.{place_added, place_had}
 
 -- ---- arcs as tasks
 
-suc_not_zero : (k : ℕ) → nat_eq (suc k) 0 ≡ false
-suc_not_zero k = go (nat_eq (suc k) 0) refl
-  where
-    go : (b : Bool) → nat_eq (suc k) 0 ≡ b → b ≡ false
-    go true e = let bad = eqb-true (suc k) 0 e in absurd (omega (arith, bad))
-    go false e = refl
-
 later_task : (arcs : List arc.Arc) (a : arc.Arc) (rest : List Task) → arc_tasks false (arcs ++ a ∷ []) ++ rest ≡ arc_tasks false arcs ++ task.Arc false a.attribute a.to ∷ rest
 later_task [] a rest = refl
 later_task (b ∷ arcs) a rest = ap (λ (ts : List Task). task.Arc false b.attribute b.to ∷ ts) (later_task arcs a rest)
@@ -34,7 +27,7 @@ later_task (b ∷ arcs) a rest = ap (λ (ts : List Task). task.Arc false b.attri
 pub last_task : (arcs : List arc.Arc) (a : arc.Arc) (rest : List Task) → arc_tasks true (arcs ++ a ∷ []) ++ rest ≡ arc_tasks true arcs ++ task.Arc (nat_eq (length arcs) 0) a.attribute a.to ∷ rest
 last_task [] a rest = refl
 last_task (b ∷ arcs) a rest =
-    ap (λ (ts : List Task). task.Arc true b.attribute b.to ∷ ts) (later_task arcs a rest ∙ ap (λ x. arc_tasks false arcs ++ task.Arc x a.attribute a.to ∷ rest) (sym (suc_not_zero (length arcs))))
+    ap (λ (ts : List Task). task.Arc true b.attribute b.to ∷ ts) (later_task arcs a rest ∙ ap (λ x. arc_tasks false arcs ++ task.Arc x a.attribute a.to ∷ rest) (sym (ne_eqb (suc (length arcs)) 0 (λ e. omega (arith, e)))))
 
 -- one arc more, off the end of the arcs
 pub tasks_more : (arcs rest : List arc.Arc) (ts us : List Task) (a : arc.Arc) (first : Bool) → arcs ≡ rest ++ a ∷ [] → first ≡ nat_eq (length rest) 0 → us ≡ ts ++ task.Arc first a.attribute a.to ∷ []
@@ -92,6 +85,9 @@ with_close arcs m ts mid us e t = t ∙ (ap (λ (xs : List Task). arc_tasks true
 
 pub one_longer : {A : Type 0} (xs ys : List A) (x : A) → ys ≡ xs ++ x ∷ [] → length xs + 1 ≤ length ys
 one_longer xs ys x e = let same = ap length e in let both = length-append xs (x ∷ []) in omega (arith, same, both)
+
+pub no_shorter : {A : Type 0} (xs ys : List A) (x : A) → ys ≡ xs ++ x ∷ [] → length xs ≤ length ys
+no_shorter xs ys x e = let more = one_longer xs ys x e in omega (arith, more)
 
 pub set_none : {S : Type 0} (d : HashSet ℕ S) → IsEmpty d → (q : ℕ) → contains nat_eq d q ≡ false
 set_none d e q = ap (list_any (nat_eq q)) e

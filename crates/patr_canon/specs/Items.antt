@@ -1,6 +1,7 @@
 -- What the reader of canonical texts finds, one thing after another.
 --     IsLookOf      a Look that has the texts of a table
 --     IsItem        what stands at the front of a text that some Look gives
+--     HasGrown      the table kept its texts and got few
 --     IsFurther     the table grew by no more than the text got shorter
 use Rattle.std.specs.Prelude.{◌≡◌, ℕ, ◌+◌, ◌<◌, ◌≤◌, ◌^◌, Bool, true, false, List, [], ◌∷◌, ◌++◌, length, slice_get, Option, Some, None}
 use denote.Ref.{Bor}
@@ -9,6 +10,7 @@ use Rattle.patr_model.specs.Laws.{TextsDiffer}
 use Rattle.patr_model.specs.Reading.{bare_front, digits_front, printed_front, quoted_front}
 use Rattle.patr_model.specs.Stack.{Event, OfAtom, OfAgain, Opens, OfArc, Closes}
 use Rattle.patr_model.specs.Text.{Look, printed}
+use Rattle.patr_text.specs.Texts.{Extends}
 use Rattle.patr_text.specs.declared.symbols.Id.{Id}
 use Rattle.patr_canon.specs.declared.event.Event as its
 use Rattle.patr_canon.specs.declared.event.Event.TheVariants as event
@@ -55,10 +57,15 @@ abbrev pub IsSymbolFront : List (List ℕ) → List ℕ → Option (Id × Bor (L
 IsSymbolFront table bs None = (t r : List ℕ) → printed t ++ r ≡ bs → printed_front bs ≡ Some (record { it = t; rest = r }) → ⊥
 IsSymbolFront table bs (Some x) = (t : List ℕ) × (slice_get table x.0.0 ≡ Some t) × (printed_front bs ≡ Some (record { it = t; rest = x.1.now }))
 
+-- the table kept its texts, and got no more new ones than the text has bytes
+pub record HasGrown (old new : List (List ℕ)) (bs : List ℕ) : Type 0 where
+  pub table : Extends old new
+  pub limit : length new ≤ length old + length bs
+
 -- the symbol that was read is held, and what is left is shorter; the table grew by no more than the text got shorter
-abbrev pub IsFurther : {X : Type 0} → ℕ → ℕ → List ℕ → Option (X × Bor (List ℕ)) → Type 0
+abbrev pub IsFurther : {X : Type 0} → List (List ℕ) → List (List ℕ) → List ℕ → Option (X × Bor (List ℕ)) → Type 0
 IsFurther old new bs None = Unit {0}
-IsFurther old new bs (Some x) = (length x.1.now < length bs) × (new + length x.1.now ≤ old + length bs)
+IsFurther old new bs (Some x) = (length x.1.now < length bs) × (length new + length x.1.now ≤ length old + length bs)
 
 -- the attribute that some Look prints at the front, with its `: `
 abbrev pub IsArcFront : List (List ℕ) → Bool → List ℕ → Option (its.Event × Bor (List ℕ)) → Type 0
@@ -96,3 +103,7 @@ IsItem table e bs (Some r) = (l : Look) → IsLookOf table l → (d : ℕ) (x : 
 abbrev pub IsSpelledItem : ℕ → Option (its.Event × Bor (List ℕ)) → Type 0
 IsSpelledItem n None = Unit {0}
 IsSpelledItem n (Some x) = EventIsSpelled n (event_seen x.0)
+
+-- what is left behind an event is shorter, and the event's symbol is held
+abbrev pub IsFurtherItem : List (List ℕ) → List (List ℕ) → List ℕ → Option (its.Event × Bor (List ℕ)) → Type 0
+IsFurtherItem old new bs r = IsFurther old new bs r × IsSpelledItem (length new) r

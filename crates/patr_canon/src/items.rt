@@ -4,13 +4,19 @@ ghost use Rattle.patr_text.specs.Texts.{Extends};
 ghost use Rattle.patr_model.specs.Items.{AValue};
 ghost use Rattle.patr_model.specs.Reading.{skip};
 ghost use Rattle.patr_model.specs.Stack.{separator};
-ghost use Rattle.patr_canon.specs.Items.{IsBareFront, IsFurther, IsItem, IsNumbered, IsQuotedFront, IsSpelledItem, IsSymbolFront, expect_behind, expect_in, expected_seen};
+ghost use Rattle.patr_canon.specs.Items.{HasGrown, IsBareFront, IsFurther, IsFurtherItem, IsItem, IsNumbered, IsQuotedFront, IsSymbolFront, expect_behind, expect_in, expected_seen};
 ghost use Rattle.patr_canon.specs.Walks.{event_seen};
 
 use crate::event::Event;
 use crate::front::{bare_front, behind, behind_both, number_front, unquote};
 use patr_text::{Id, Memory, Symbols};
 use std::alloc::Global;
+
+/// What stands at the front of a text, and what is behind it; `None` where nothing that is looked for stands there.
+type Found<'a, X> = Result<Option<(X, &'a str)>, Memory>;
+
+/// An event that stands at the front of a text, and what is behind it.
+type FoundItem<'a> = Found<'a, Event>;
 
 /// What a text goes on with: a value; a node's first attribute or its bracket; what follows a value.
 #[derive(Clone, Copy, Debug, PartialEq, Eq)]
@@ -44,16 +50,11 @@ fn number_of(symbols: &mut Symbols, text: &str) -> Result<Id, Memory>
 }
 
 /// The symbol up to the closing quote, and what is behind it.
-fn quoted_symbol<'a>(
-    alloc: Global,
-    symbols: &mut Symbols,
-    text: &'a str,
-) -> Result<Option<(Id, &'a str)>, Memory>
+fn quoted_symbol<'a>(alloc: Global, symbols: &mut Symbols, text: &'a str) -> Found<'a, Id>
     requires room { length symbols.old + length text.now < 2 ^ 32 - 1 }
-    ensures table { Extends symbols.old symbols.new }
-    ensures limit { length symbols.new ≤ length symbols.old + length text.now }
+    ensures grown { HasGrown symbols.old symbols.new text.now }
     ensures front { IfOk result (IsQuotedFront symbols.new text.now) }
-    ensures further { IfOk result (IsFurther (length symbols.old) (length symbols.new) text.now) }
+    ensures further { IfOk result (IsFurther symbols.old symbols.new text.now) }
 {
     let mut symbol = String::new(alloc);
     let Some(rest) = unquote(text, &mut symbol)? else {
@@ -64,12 +65,11 @@ fn quoted_symbol<'a>(
 }
 
 /// The symbol without quotes, and what is behind it; `None` where it has no bytes.
-fn bare_symbol<'a>(symbols: &mut Symbols, text: &'a str) -> Result<Option<(Id, &'a str)>, Memory>
+fn bare_symbol<'a>(symbols: &mut Symbols, text: &'a str) -> Found<'a, Id>
     requires room { length symbols.old + length text.now < 2 ^ 32 - 1 }
-    ensures table { Extends symbols.old symbols.new }
-    ensures limit { length symbols.new ≤ length symbols.old + length text.now }
+    ensures grown { HasGrown symbols.old symbols.new text.now }
     ensures front { IfOk result (IsBareFront symbols.new text.now) }
-    ensures further { IfOk result (IsFurther (length symbols.old) (length symbols.new) text.now) }
+    ensures further { IfOk result (IsFurther symbols.old symbols.new text.now) }
 {
     let (symbol, rest) = bare_front(text);
     if symbol.is_empty() {
@@ -80,16 +80,11 @@ fn bare_symbol<'a>(symbols: &mut Symbols, text: &'a str) -> Result<Option<(Id, &
 }
 
 /// The atom or attribute at the front, and what is behind it.
-fn symbol_front<'a>(
-    alloc: Global,
-    symbols: &mut Symbols,
-    text: &'a str,
-) -> Result<Option<(Id, &'a str)>, Memory>
+fn symbol_front<'a>(alloc: Global, symbols: &mut Symbols, text: &'a str) -> Found<'a, Id>
     requires room { length symbols.old + length text.now < 2 ^ 32 - 1 }
-    ensures table { Extends symbols.old symbols.new }
-    ensures limit { length symbols.new ≤ length symbols.old + length text.now }
+    ensures grown { HasGrown symbols.old symbols.new text.now }
     ensures front { IfOk result (IsSymbolFront symbols.new text.now) }
-    ensures further { IfOk result (IsFurther (length symbols.old) (length symbols.new) text.now) }
+    ensures further { IfOk result (IsFurther symbols.old symbols.new text.now) }
 {
     match behind(text, '"') {
         Some(quoted) => quoted_symbol(alloc, symbols, quoted),
@@ -109,17 +104,11 @@ fn numbered(text: &str) -> Option<(Event, &str)>
 }
 
 /// What a value begins with, and what is behind it.
-fn value_item<'a>(
-    alloc: Global,
-    symbols: &mut Symbols,
-    text: &'a str,
-) -> Result<Option<(Event, &'a str)>, Memory>
+fn value_item<'a>(alloc: Global, symbols: &mut Symbols, text: &'a str) -> FoundItem<'a>
     requires room { length symbols.old + length text.now < 2 ^ 32 - 1 }
-    ensures table { Extends symbols.old symbols.new }
-    ensures limit { length symbols.new ≤ length symbols.old + length text.now }
+    ensures grown { HasGrown symbols.old symbols.new text.now }
     ensures item { IfOk result (IsItem symbols.new AValue text.now) }
-    ensures further { IfOk result (IsFurther (length symbols.old) (length symbols.new) text.now) }
-    ensures spelled { IfOk result (IsSpelledItem (length symbols.new)) }
+    ensures further { IfOk result (IsFurtherItem symbols.old symbols.new text.now) }
 {
     if let Some(rest) = behind(text, '[') {
         return Ok(Some((Event::Open(0), rest)));
@@ -142,18 +131,11 @@ fn separated(first: bool, text: &str) -> Option<&str>
 }
 
 /// A node's bracket, or its first or a further attribute with its `: `, and what is behind it.
-fn node_item<'a>(
-    alloc: Global,
-    symbols: &mut Symbols,
-    first: bool,
-    text: &'a str,
-) -> Result<Option<(Event, &'a str)>, Memory>
+fn node_item<'a>(alloc: Global, symbols: &mut Symbols, first: bool, text: &'a str) -> FoundItem<'a>
     requires room { length symbols.old + length text.now < 2 ^ 32 - 1 }
-    ensures table { Extends symbols.old symbols.new }
-    ensures limit { length symbols.new ≤ length symbols.old + length text.now }
+    ensures grown { HasGrown symbols.old symbols.new text.now }
     ensures item { IfOk result (IsItem symbols.new (expect_in first) text.now) }
-    ensures further { IfOk result (IsFurther (length symbols.old) (length symbols.new) text.now) }
-    ensures spelled { IfOk result (IsSpelledItem (length symbols.new)) }
+    ensures further { IfOk result (IsFurtherItem symbols.old symbols.new text.now) }
 {
     if let Some(rest) = behind(text, ']') {
         return Ok(Some((Event::Close, rest)));
@@ -177,13 +159,11 @@ pub(crate) fn item_front<'a>(
     symbols: &mut Symbols,
     expected: Expected,
     text: &'a str,
-) -> Result<Option<(Event, &'a str)>, Memory>
+) -> FoundItem<'a>
     requires room { length symbols.old + length text.now < 2 ^ 32 - 1 }
-    ensures table { Extends symbols.old symbols.new }
-    ensures limit { length symbols.new ≤ length symbols.old + length text.now }
+    ensures grown { HasGrown symbols.old symbols.new text.now }
     ensures item { IfOk result (IsItem symbols.new (expected_seen expected) text.now) }
-    ensures further { IfOk result (IsFurther (length symbols.old) (length symbols.new) text.now) }
-    ensures spelled { IfOk result (IsSpelledItem (length symbols.new)) }
+    ensures further { IfOk result (IsFurtherItem symbols.old symbols.new text.now) }
 {
     match expected {
         Expected::Value => value_item(alloc, symbols, text),

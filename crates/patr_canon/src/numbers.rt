@@ -54,10 +54,9 @@ pub(crate) fn number_nodes(
 pub(crate) fn number_of(numbered: &IndexSet<u64>, node: u64) -> Option<usize>
     ensures { result ≡ option_map (λ place. suc place) (place_in numbered.now.keys node) }
 {
-    if numbered.is_empty() {
+    if numbered.len() == 0 {
         return None;
     }
-    let _count = numbered.len();
     let place = numbered.get_index_of(&node)?;
     Some(place + 1)
 }

@@ -20,7 +20,7 @@ pub(crate) fn read(
     ensures built { IfOk result (HasBuilt symbols.new text.now) }
     ensures below { IfOk result (IsReadBelow (length symbols.new)) }
 {
-    let _count = symbols.len();
+    symbols.recall();
     let mut reader = Reader::new(alloc);
     let mut expected = Expected::Value;
     let mut left = text;

@@ -1,4 +1,4 @@
-use Rattle.std.proofs.Common.{None, Some, subst}
+use Rattle.std.proofs.Common.{rules, None, Some, subst}
 use Rattle.std.proofs.lemmas.Option.{slice_get_within}
 use Rattle.patr_canon.specs.Items.{IsSymbolFront}
 use Rattle.patr_canon.specs.declared.event.Event.TheVariants as event
@@ -33,8 +33,8 @@ returns-clause-item c =
     (arc_is table c.args.first rest c.in-Some-behind_both.rest.now c.in-Some-2.attribute c.in-Some-2.rest (subst (IsSymbolFront table rest) c.in-Some-2.is c.in_ok-attribute.ensures.front)
     c.in-Some-behind_both.ensures.rest)
 
-pub returns-clause-spelled : goal.returns-clause-spelled
-returns-clause-spelled c =
+pub returns-clause-further : goal.returns-clause-further
+returns-clause-further c =
     let table = c.symbol_front.new.symbols in
     let front = subst (IsSymbolFront table c.in-Some-separated.rest.now) c.in-Some-2.is c.in_ok-attribute.ensures.front in
-    slice_get_within table c.in-Some-2.attribute.0 front.0 front.1
+    (search rules, slice_get_within table c.in-Some-2.attribute.0 front.0 front.1)

@@ -1,4 +1,4 @@
-use Rattle.std.proofs.Common.{subst}
+use Rattle.std.proofs.Common.{rules, subst}
 use Rattle.std.proofs.lemmas.Option.{slice_get_within}
 use Rattle.patr_canon.specs.Items.{IsSymbolFront}
 use Rattle.patr_canon.proofs.ItemFronts.{opening_item, numbered_item, atom_item, atom_none}
@@ -20,7 +20,7 @@ returns-clause-item c = λ l is d x left f fits e.
     atom_item c.symbol_front.new.symbols c.args.text.now c.in_default.ensures.rest c.in_default-behind.ensures.rest l is d x left f e c.in-Some-2.atom c.in-Some-2.rest
     (subst (IsSymbolFront c.symbol_front.new.symbols c.args.text.now) c.in-Some-2.is c.in_ok-atom.ensures.front)
 
-pub returns-clause-spelled : goal.returns-clause-spelled
-returns-clause-spelled c =
+pub returns-clause-further : goal.returns-clause-further
+returns-clause-further c =
     let front = subst (IsSymbolFront c.symbol_front.new.symbols c.args.text.now) c.in-Some-2.is c.in_ok-atom.ensures.front in
-    slice_get_within c.symbol_front.new.symbols c.in-Some-2.atom.0 front.0 front.1
+    (search rules, slice_get_within c.symbol_front.new.symbols c.in-Some-2.atom.0 front.0 front.1)

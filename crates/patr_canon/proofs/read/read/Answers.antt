@@ -18,7 +18,7 @@ has_some table h = let len = ap length h.1 in omega (arith, len)
 
 pub loop-left-init : goal.loop-left-init
 loop-left-init c = record {
-  going = going_start c.args.symbols.now c.args.text.now c.new-reader.result (has_some c.args.symbols.now c.len-count.ensures.first) c.new-reader.ensures.places c.new-reader.ensures.begun c.new-reader.ensures.root c.new-reader.ensures.nodes;
+  going = going_start c.args.symbols.now c.args.text.now c.new-reader.result (has_some c.args.symbols.now c.recall.ensures.first) c.new-reader.ensures.places c.new-reader.ensures.begun c.new-reader.ensures.root c.new-reader.ensures.nodes;
   utf8 = c.utf8.text;
 }
 
@@ -28,17 +28,17 @@ item_front-requires c = record { room = omega (arith, c.requires.room, c.loop-le
 pub returns-in_default-clause-built : goal.returns-in_default-clause-built
 returns-in_default-clause-built c =
     going_nowhere c.args.symbols.now c.loop-left.symbols c.item_front.new.symbols c.args.text.now c.loop-left.reader (expected_seen c.loop-left.expected) c.loop-left.left.now c.loop-left.invariant.going
-    (not_empty c.loop-left.left.now c.loop-left-test.ensures) c.in_ok-event.ensures.table (subst (IsItem c.item_front.new.symbols (expected_seen c.loop-left.expected) c.loop-left.left.now) c.in_default.is c.in_ok-event.ensures.item)
+    (not_empty c.loop-left.left.now c.loop-left-test.ensures) c.in_ok-event.ensures.grown.table (subst (IsItem c.item_front.new.symbols (expected_seen c.loop-left.expected) c.loop-left.left.now) c.in_default.is c.in_ok-event.ensures.item)
 
 pub loop-left-preserved : goal.loop-left-preserved
 loop-left-preserved c =
     let table = c.item_front.new.symbols in
     record {
       going = going_on c.args.symbols.now c.loop-left.symbols table c.args.text.now c.loop-left.reader c.feed.new.self (expected_seen c.loop-left.expected) c.loop-left.left.now c.in-Some.event c.in-Some.rest (expected_seen c.expected_behind-expected.result)
-          c.loop-left.invariant.going (not_empty c.loop-left.left.now c.loop-left-test.ensures) c.in_ok-event.ensures.table
+          c.loop-left.invariant.going (not_empty c.loop-left.left.now c.loop-left-test.ensures) c.in_ok-event.ensures.grown.table
           (subst (IsItem table (expected_seen c.loop-left.expected) c.loop-left.left.now) c.in-Some.is c.in_ok-event.ensures.item)
-          (subst (IsSpelledItem (length table)) c.in-Some.is c.in_ok-event.ensures.spelled)
-          (subst (IsFurther (length c.loop-left.symbols) (length table) c.loop-left.left.now) c.in-Some.is c.in_ok-event.ensures.further).1
+          (subst (IsSpelledItem (length table)) c.in-Some.is c.in_ok-event.ensures.further.1)
+          (subst (IsFurther c.loop-left.symbols table c.loop-left.left.now) c.in-Some.is c.in_ok-event.ensures.further.0).1
           c.in_ok-feed.ensures c.expected_behind-expected.ensures;
       utf8 = search rules;
     }

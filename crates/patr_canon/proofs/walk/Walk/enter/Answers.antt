@@ -1,11 +1,8 @@
-use Rattle.std.proofs.Common.{◌+◌, ◌≤◌, ℕ, length, arith, sym, subst}
+use Rattle.std.proofs.Common.{length, sym, subst}
 use Rattle.patr_arena.specs.declared.value.Value.{Value}
 use Rattle.patr_canon.proofs.Names.{AreSpelled, HasEntered, IsEntering, ValueIsHeld, value_of}
-use Rattle.patr_canon.proofs.Walks.{enter_atom, enter_again, one_longer}
+use Rattle.patr_canon.proofs.Walks.{enter_atom, enter_again, no_shorter}
 use Rattle.patr_canon.proofs.walk.Walk.enter.Goals as goal
-
-less : (n m : ℕ) → n + 1 ≤ m → n ≤ m
-less n m h = omega (arith, h)
 
 pub returns-in_ok-push-in-Atom : goal.returns-in_ok-push-in-Atom
 returns-in_ok-push-in-Atom g c =
@@ -15,7 +12,7 @@ returns-in_ok-push-in-Atom g c =
       walking = λ total w. enter_atom v s c.args.look.now total c.args.self.now.done c.in-Atom.atom c.args.self.now.events.items c.push.new.self.items c.args.self.now.tasks.items
           (subst (λ (x : Value). AreSpelled (length c.args.look.now.symbols.now) v.structure (value_of v x)) c.in-Atom.is c.requires.spelled) c.in_ok-push-in-Atom.ensures.items
           (subst (λ (x : Value). IsEntering v c.args.look.now x total c.args.self.now.done c.args.self.now.events.items c.args.self.now.tasks.items) c.in-Atom.is w);
-      grows = less _ _ (one_longer c.args.self.now.events.items c.push.new.self.items _ c.in_ok-push-in-Atom.ensures.items);
+      grows = no_shorter c.args.self.now.events.items c.push.new.self.items _ c.in_ok-push-in-Atom.ensures.items;
     }
 
 pub open-requires-clause-spelled : goal.open-requires-clause-spelled
@@ -31,7 +28,7 @@ returns-in_ok-push-in-Node g c =
       walking = λ total w. enter_again v s c.args.look.now total c.args.self.now.done c.in-Node.at c.number-node.result c.args.self.now.events.items c.push-then-contains.new.self.items c.args.self.now.tasks.items
           (subst (ValueIsHeld v) c.in-Node.is c.requires.value) c.number-node.ensures (sym c.if-contains.ensures) c.in_ok-push-in-Node.ensures.items
           (subst (λ (x : Value). IsEntering v c.args.look.now x total c.args.self.now.done c.args.self.now.events.items c.args.self.now.tasks.items) c.in-Node.is w);
-      grows = less _ _ (one_longer c.args.self.now.events.items c.push-then-contains.new.self.items _ c.in_ok-push-in-Node.ensures.items);
+      grows = no_shorter c.args.self.now.events.items c.push-then-contains.new.self.items _ c.in_ok-push-in-Node.ensures.items;
     }
 
 pub returns-in_ok-open-in-Node : goal.returns-in_ok-open-in-Node

@@ -1,10 +1,7 @@
-use Rattle.std.proofs.Common.{◌+◌, ◌≤◌, ℕ, length, arith}
+use Rattle.std.proofs.Common.{length}
 use Rattle.patr_arena.specs.Shown.{number_of}
-use Rattle.patr_canon.proofs.Walks.{attributes_below, enter_new, one_longer, with_close}
+use Rattle.patr_canon.proofs.Walks.{attributes_below, enter_new, no_shorter, with_close}
 use Rattle.patr_canon.proofs.walk.Walk.open.Goals as goal
-
-less : (n m : ℕ) → n + 1 ≤ m → n ≤ m
-less n m h = omega (arith, h)
 
 pub arcs_in_order-requires-clause-symbols : goal.arcs_in_order-requires-clause-symbols
 arcs_in_order-requires-clause-symbols g c =
@@ -20,5 +17,5 @@ returns g c =
       walking = λ total w. enter_new v s c.args.look.now total c.args.self.now.done c.args.at c.args.node c.arcs_in_order.new.arcs.items c.args.self.now.events.items c.push.new.self.items c.args.self.now.tasks.items c.push_arcs.new.tasks.items
           c.requires.at c.requires.node c.requires.new c.requires.spelled c.in_ok-arcs_in_order.ensures.order c.in_ok-arcs_in_order.ensures.held c.in_ok-push.ensures.items
           (with_close c.arcs_in_order.new.arcs.items c.args.node c.args.self.now.tasks.items c.push-2.new.self.items c.push_arcs.new.tasks.items c.in_ok-push-2.ensures.items c.in_ok-push_arcs.ensures) w;
-      grows = less _ _ (one_longer c.args.self.now.events.items c.push.new.self.items _ c.in_ok-push.ensures.items);
+      grows = no_shorter c.args.self.now.events.items c.push.new.self.items _ c.in_ok-push.ensures.items;
     }
