@@ -29,3 +29,4 @@ pub mod Ready
 pub mod Drafted
 pub mod ItemEdges
 pub mod Sound
+pub mod Splits

@@ -1,8 +1,13 @@
--- The words of a sentence that is not refused for them.
-use Rattle.std.specs.Prelude.{◌≡◌, ℕ, ◌≤◌, List, length, take, Some, slice_get}
-use Rattle.std.specs.List.{AllByRecursion}
+-- The words of a sentence, and those of one that is not refused for them.
+use Rattle.std.specs.Prelude.{◌≡◌, ℕ, ◌≤◌, nat_eq, List, length, take, Some, slice_get}
+use Rattle.std.specs.List.{AllByRecursion, slice_split}
+use Rattle.patr_model.specs.Session.{without_empty}
 use Rattle.patr_library.specs.Stored.{Stored}
 use Rattle.patr_parse.specs.Sentences.{AreNumbers, IsKnown}
+
+-- the parts of a text between tabs that are not empty
+abbrev pub between_tabs : List ℕ → List (List ℕ)
+between_tabs text = without_empty (slice_split (λ b. nat_eq b 9) text)
 
 -- the words are few, each of them has an entry, and these are their numbers
 pub record AreKnown (s : Stored) (table : List (List ℕ)) (words : List (List ℕ)) (numbers : List ℕ) : Type 0 where

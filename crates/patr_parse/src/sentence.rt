@@ -3,9 +3,8 @@ ghost use Rattle.std.specs.Prelude.{◌≡◌, ℕ, ◌<◌, ◌≤◌, ◌++◌
 ghost use Rattle.patr_arena.specs.Paths.{ids};
 ghost use Rattle.patr_model.specs.Session.{words_of};
 ghost use Rattle.patr_model.specs.Table.{IsTable};
-ghost use Rattle.patr_lexicon.specs.Split.{between_tabs};
 ghost use Rattle.patr_parse.specs.Sentences.{IsKnown, IsRefusedFor};
-ghost use Rattle.patr_parse.specs.Words.{AreKnown, IsNumberOf};
+ghost use Rattle.patr_parse.specs.Words.{AreKnown, IsNumberOf, between_tabs};
 
 use crate::parse::ParseCause;
 use patr_library::Library;

@@ -3,7 +3,7 @@ use Rattle.std.proofs.lemmas.List.{map-append}
 use Rattle.std.proofs.lemmas.Iterator.Consumers.{YieldsList-end}
 use Rattle.std.proofs.lemmas.Iterator.Splits.{YieldsList-from_str_split}
 use Rattle.patr_model.specs.Session.{without_empty}
-use Rattle.patr_lexicon.proofs.Splits.{word_more, word_same}
+use Rattle.patr_parse.proofs.Splits.{word_more, word_same}
 use Rattle.patr_parse.proofs.sentence.push_words.Goals as goal
 
 pub loop-word-preserved : goal.loop-word-preserved

@@ -2,8 +2,8 @@ use Rattle.std.proofs.Common.{◌∷◌, [], List, ℕ, map, flat_map, Bor, sym,
 use Rattle.std.proofs.lemmas.List.{map-append}
 use Rattle.std.proofs.lemmas.Iterator.Consumers.{YieldsList-end}
 use Rattle.std.proofs.lemmas.Iterator.Splits.{YieldsList-from_str_split}
-use Rattle.patr_lexicon.specs.Split.{between_tabs}
-use Rattle.patr_lexicon.proofs.Splits.{words_by_parts, parts_more}
+use Rattle.patr_parse.specs.Words.{between_tabs}
+use Rattle.patr_parse.proofs.Splits.{words_by_parts, parts_more}
 use Rattle.patr_parse.proofs.sentence.words_of.Goals as goal
 
 pub loop-text-preserved : goal.loop-text-preserved

@@ -1,5 +1,5 @@
 use Rattle.std.proofs.Common.{◌≡◌, List, ℕ, map, flat_map, Bor}
-use Rattle.patr_lexicon.specs.Split.{between_tabs}
+use Rattle.patr_parse.specs.Words.{between_tabs}
 use Rattle.patr_parse.proofs.sentence.words_of.Given as goal
 
 abbrev pub invariant-loop-text : goal.invariant-loop-text
