@@ -6,7 +6,7 @@ use Rattle.std.proofs.lemmas.List.Elements.{All-from_recursion, recursion_from_A
 use Rattle.std.proofs.lemmas.List.Sorted.{All-permutation, IsPermutation-sym, sum_by-IsPermutation}
 use Rattle.std.proofs.lemmas.List.Sums.{sum_by-cons}
 use Rattle.std.proofs.lemmas.Option.{slice_get_within}
-use Rattle.patr_lists.proofs.Members.{in_map, one_place}
+use Rattle.patr_lists.proofs.Members.{in_map, one_place, in_at}
 use Rattle.patr_lists.proofs.Alls.{all_weaker, all_of}
 use Rattle.patr_lists.specs.Members.{IsIn}
 use Rattle.patr_lists.specs.Numbers.{places}
@@ -21,7 +21,6 @@ use Rattle.patr_model.proofs.Shared.{one_if, count}
 use Rattle.patr_model.proofs.Prediction.{prediction_drops_none}
 use Rattle.patr_chart.specs.Charted.{tree}
 use Rattle.patr_library.specs.Stored.{HasItems}
-use Rattle.patr_parse.proofs.Numbers.{has_at}
 use Rattle.patr_parse.proofs.Picked.{places_once}
 use Rattle.patr_parse.proofs.Ordered.{analysis_cmp, adjacent, rises}
 use Rattle.patr_parse.proofs.Tasks.{trees_length}
@@ -115,7 +114,7 @@ module _ (g : Rules) (s : Stored) (items : HasItems g s.shown s.rules s.entries)
   pub is_all : StatesCategories g keys.cat → (ns : List ℕ) → ns ≡ found → length ns ≤ 1 → AreAll g keys.cat ws es ns
   is_all states ns is few =
       all_found states ns (subst (AllByRecursion IsGood) (sym is) (all_of IsGood found is_good)) (few_rise ns few)
-      (λ k h. let at = subst (λ l. Contains l k) (sym is) h in in_map (tree es) ns k (subst (IsIn ns) at.2 (has_at ns at.0 k at.1)))
+      (λ k h. let at = subst (λ l. Contains l k) (sym is) h in in_map (tree es) ns k (subst (IsIn ns) at.2 (in_at ns k at.0 at.1)))
     where
       few_rise : (ns : List ℕ) → length ns ≤ 1 → Rises (map (tree es) ns)
       few_rise [] h = tt

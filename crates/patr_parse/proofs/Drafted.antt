@@ -5,7 +5,7 @@ use Rattle.std.proofs.lemmas.List.{length-map, map-append}
 use Rattle.std.proofs.Math.Seq.{take-length}
 use Rattle.patr_lists.proofs.Alls.{all_append}
 use Rattle.patr_lists.proofs.Places.{get_left}
-use Rattle.patr_parse.proofs.Names.{Rules, size, Judgement, HasMoreThan, Each, HasPairs, IsWorked, IsSolvable, some_inj, arc, Feature, Ref, Extends, with_block, sentence_of, Shown, IsShown, ValueIsHeld, value_of, still_held, made_of, kind_passive, Back, Edge, HasOrigin, IsEdgeAfter, derivations, derived, derived_by, Stored, rules_of, Draft, ArePlaced, IsDraft, with_root, AreSound, IsSoundEdge, HasMother, IsRootBy, IsRoundAt, Stands, AreSmall, AreWaiting, IsReady, judge, made_by}
+use Rattle.patr_parse.proofs.Names.{extends_on, extends_same, Rules, size, Judgement, HasMoreThan, Each, HasPairs, IsWorked, IsSolvable, some_inj, arc, Feature, Ref, Extends, with_block, sentence_of, Shown, IsShown, ValueIsHeld, value_of, still_held, made_of, kind_passive, Back, Edge, HasOrigin, IsEdgeAfter, derivations, derived, derived_by, Stored, rules_of, Draft, ArePlaced, IsDraft, with_root, AreSound, IsSoundEdge, HasMother, IsRootBy, IsRoundAt, Stands, AreSmall, AreWaiting, IsReady, judge, made_by}
 use Rattle.patr_arena.specs.declared.value.Ref.TheVariants as ref
 use Rattle.patr_arena.specs.Blocks.{AllOldHeld, OldIsHeld, OldRefIsHeld}
 use Rattle.patr_unify.specs.Copying.{Fits}
@@ -15,7 +15,7 @@ use Rattle.patr_parse.specs.Drafts.{AreDrafts, IsPlaced, StandsFor, TaskGave, ed
 use Rattle.patr_parse.specs.Rounds.{IsCompleted}
 use Rattle.patr_parse.specs.Standing.{IsRound, MayBePushed}
 use Rattle.patr_parse.specs.Tasks.{HasLarge}
-use Rattle.patr_parse.proofs.Growing.{extends_on, extends_same, ready_still, sound_pushed, sound_still}
+use Rattle.patr_parse.proofs.Growing.{ready_still, sound_pushed, sound_still}
 use Rattle.patr_parse.proofs.Pushing.{sound_draft}
 use Rattle.patr_parse.proofs.Members.{among}
 use Rattle.patr_parse.proofs.Paired.{partners_few}

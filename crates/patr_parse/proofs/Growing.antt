@@ -105,15 +105,6 @@ module _ (v w : Shown) (sv : IsShown v) (sw : IsShown w) (e : Extends v w) where
     pub waiting_still : (ys : List Edge) → AreWaiting g s v es ys → AreWaiting g s w es ys
     waiting_still ys h = λ n f at. sound_still g s r.items es all_held (derived (derivations es) f) f (h n f at)
 
-pub extends_same : (v : Shown) → Extends v v
-extends_same v = record { sizes = ([], sym (append-nil v.sizes)); structure = ([], sym (append-nil v.structure)) }
-
-pub extends_on : (u v w : Shown) → Extends u v → Extends v w → Extends u w
-extends_on u v w e f = record {
-  sizes = (e.sizes.0 ++ f.sizes.0, f.sizes.1 ∙ (ap (λ l. l ++ f.sizes.0) e.sizes.1 ∙ append_assoc u.sizes e.sizes.0 f.sizes.0));
-  structure = (e.structure.0 ++ f.structure.0, f.structure.1 ∙ (ap (λ l. l ++ f.structure.0) e.structure.1 ∙ append_assoc u.structure e.structure.0 f.structure.0));
-}
-
 -- ---- more edges
 
 made_at : (f : Edge → Derivation) (ys : List Edge) (n : ℕ) (e : Edge) (d : Derivation) → slice_get ys n ≡ Some e → get_or (map f ys) n d ≡ f e

@@ -1,7 +1,9 @@
 -- The items of a library, as derivations: each stands for one that has a solution.
 use Rattle.std.proofs.Common.{◌≡◌, ◌⊎◌, inl, inr, ℕ, zero, suc, ◌+◌, ◌<◌, ◌≤◌, Bool, true, false, nat_lt, ltb-true, ltb-false, List, [], ◌∷◌, length, map, Some, slice_get, refl, sym, ap, ◌∙◌, arith, subst, zero-add, eqb-true, eq-eqb}
+use Rattle.std.specs.Option.{option_map}
+use Rattle.std.proofs.lemmas.Option.{slice_get-map}
 use Rattle.patr_lists.proofs.Alls.{all_at}
-use Rattle.patr_lists.proofs.Members.{in_cases, in_left, in_right, once_append}
+use Rattle.patr_lists.proofs.Members.{in_cases, in_left, in_right, once_append, contains_in, in_map, map_in, once_map, place_of}
 use Rattle.patr_lists.specs.Numbers.{places}
 use Rattle.patr_lists.specs.Members.{NoRepeats, IsIn}
 use Rattle.patr_parse.proofs.Names.{Value, Structure, Rules, Derivation, Leaf, Begin, IsSolvable, IsLeastValue, IsNoPair, some_inj, variant_steps, places_pass, passes_placed, RuleItem, EntryItem, Stored, IsStored, IsRuleItem, rules_of, root_of, is_of_word, begun_at, leaves_at, leaves_from}
@@ -9,22 +11,22 @@ use Rattle.patr_model.specs.Derivation.{start}
 use Rattle.patr_chart.proofs.Passing.{places_rise}
 use Rattle.patr_library.specs.Stored.{Rises, IsEntryItem, is_of_mother}
 use Rattle.patr_parse.specs.Begun.{begun_of, begun, leaf_of, leaf}
-use Rattle.patr_parse.proofs.Numbers.{Rising, rising_of, has_contains, contains_has, in_map, map_in, once_map}
+use Rattle.patr_parse.proofs.Numbers.{rising_once, rising_of}
 
 -- ---- the members of a list that pass a test
 
 module _ {X : Type 0} (test : X → Bool) (xs : List X) where
   pub placed_is : (n : ℕ) → IsIn (places test 0 xs) n → (x : X) × (slice_get xs n ≡ Some x) × (test x ≡ true)
   placed_is n h =
-      let p = places_pass test 0 xs n (has_contains (places test 0 xs) n h) in
+      let p = places_pass test 0 xs n (place_of (places test 0 xs) n n h) in
       let same : p.0 ≡ n = sym (p.2 ∙ zero-add p.0) in
       (p.1, ap (λ k. slice_get xs k) (sym same) ∙ p.3, p.4)
 
   pub is_placed : (n : ℕ) (x : X) → slice_get xs n ≡ Some x → test x ≡ true → IsIn (places test 0 xs) n
-  is_placed n x at t = subst (λ k. IsIn (places test 0 xs) k) (zero-add n) (contains_has (places test 0 xs) (0 + n) (passes_placed test 0 xs n x at t))
+  is_placed n x at t = subst (λ k. IsIn (places test 0 xs) k) (zero-add n) (contains_in (places test 0 xs) (0 + n) (passes_placed test 0 xs n x at t))
 
-  pub placed_rise : Rising 0 (places test 0 xs)
-  placed_rise = rising_of 0 (places test 0 xs) (λ h. omega arith) (places_rise test 0 xs)
+  pub placed_once : NoRepeats (places test 0 xs)
+  placed_once = rising_once 0 (places test 0 xs) (rising_of 0 (places test 0 xs) (λ h. omega arith) (places_rise test 0 xs))
 
 -- ---- pairs that rise differ
 
@@ -65,9 +67,7 @@ one_place ps r m n x y h k p q = go (nat_lt m n) refl (nat_lt n m) refl
     go false e false f = omega (arith, ltb-false m n e, ltb-false n m f)
 
 get_mapped : {X Y : Type 0} (f : X → Y) (xs : List X) (n : ℕ) (x : X) → slice_get xs n ≡ Some x → slice_get (map f xs) n ≡ Some (f x)
-get_mapped f [] n x h = cc
-get_mapped f (y ∷ xs) zero x h = ap (λ z. Some (f z)) (some_inj y x h)
-get_mapped f (y ∷ xs) (suc n) x h = get_mapped f xs n x h
+get_mapped f xs n x h = slice_get-map f xs n ∙ ap (option_map f) h
 
 -- ---- items
 
@@ -114,23 +114,22 @@ module _ (s : Stored) (stored : IsStored s) where
       record { number = n; item = p.0; there = p.1; mother = eqb-true p.0.mother.0 c p.2; is = ap (λ o. begun_of o i) p.1 }
 
   pub in_begun : (c i : ℕ) (t : Derivation) → IsIn (begun_at s c i) t → IsBegun c i t
-  in_begun c i t h = let a = in_map (begun s i) (places (is_of_mother c) 0 s.rules) t h in subst (λ x. IsBegun c i x) a.2 (begun_number c i a.0 a.1)
+  in_begun c i t h = let a = map_in (begun s i) (places (is_of_mother c) 0 s.rules) t h in subst (λ x. IsBegun c i x) a.2 (begun_number c i a.0 a.1)
 
   pub begun_in : (c i n : ℕ) (item : RuleItem) → slice_get s.rules n ≡ Some item → item.mother.0 ≡ c → IsIn (begun_at s c i) (Begin item.rule item.variant i)
   begun_in c i n item at q =
       subst (λ o. IsIn (begun_at s c i) (begun_of o i)) at
-      (map_in (begun s i) (places (is_of_mother c) 0 s.rules) n (is_placed (is_of_mother c) s.rules n item at (eq-eqb item.mother.0 c q)))
+      (in_map (begun s i) (places (is_of_mother c) 0 s.rules) n (is_placed (is_of_mother c) s.rules n item at (eq-eqb item.mother.0 c q)))
 
   pub once_begun : (c i : ℕ) → NoRepeats (begun_at s c i)
   unfolding begun_number placed_is
-  once_begun c i = once_map (begun s i) 0 (places (is_of_mother c) 0 s.rules) (λ m n hm hn q.
+  once_begun c i = once_map (begun s i) (places (is_of_mother c) 0 s.rules) (placed_once (is_of_mother c) s.rules) (λ m n hm hn q.
       (let a = begun_number c i m hm in
       let b = begun_number c i n hn in
       let same = same_begin a.item.rule a.item.variant b.item.rule b.item.variant i (sym a.is ∙ (q ∙ b.is)) in
       one_place (map (λ x. (x.rule, x.variant)) s.rules) stored.rules_rise m n (a.item.rule, a.item.variant) (b.item.rule, b.item.variant)
       (get_mapped (λ (x : RuleItem). (x.rule, x.variant)) s.rules m a.item (placed_there c i m hm))
       (get_mapped (λ (x : RuleItem). (x.rule, x.variant)) s.rules n b.item (placed_there c i n hn)) same.0 same.1))
-      (placed_rise (is_of_mother c) s.rules)
     where
       same_begin : (r k q l i : ℕ) → Begin r k i ≡ Begin q l i → (r ≡ q) × (k ≡ l)
       same_begin r k q l i e = (cc, cc)
@@ -155,23 +154,22 @@ module _ (s : Stored) (stored : IsStored s) where
       record { number = n; item = p.0; there = p.1; word = p.2; is = ap (λ o. leaf_of o i) p.1 }
 
   pub in_leaves : (w i : ℕ) (t : Derivation) → IsIn (leaves_at s w i) t → IsLeaf w i t
-  in_leaves w i t h = let a = in_map (leaf s i) (places (is_of_word s.lexicon w) 0 s.entries) t h in subst (λ x. IsLeaf w i x) a.2 (leaf_number w i a.0 a.1)
+  in_leaves w i t h = let a = map_in (leaf s i) (places (is_of_word s.lexicon w) 0 s.entries) t h in subst (λ x. IsLeaf w i x) a.2 (leaf_number w i a.0 a.1)
 
   pub leaves_in : (w i n : ℕ) (item : EntryItem) → slice_get s.entries n ≡ Some item → is_of_word s.lexicon w item ≡ true → IsIn (leaves_at s w i) (Leaf item.entry item.variant i (suc i))
   leaves_in w i n item at t =
       subst (λ o. IsIn (leaves_at s w i) (leaf_of o i)) at
-      (map_in (leaf s i) (places (is_of_word s.lexicon w) 0 s.entries) n (is_placed (is_of_word s.lexicon w) s.entries n item at t))
+      (in_map (leaf s i) (places (is_of_word s.lexicon w) 0 s.entries) n (is_placed (is_of_word s.lexicon w) s.entries n item at t))
 
   once_leaves : (w i : ℕ) → NoRepeats (leaves_at s w i)
   unfolding leaf_number placed_is
-  once_leaves w i = once_map (leaf s i) 0 (places (is_of_word s.lexicon w) 0 s.entries) (λ m n hm hn q.
+  once_leaves w i = once_map (leaf s i) (places (is_of_word s.lexicon w) 0 s.entries) (placed_once (is_of_word s.lexicon w) s.entries) (λ m n hm hn q.
       (let a = leaf_number w i m hm in
       let b = leaf_number w i n hn in
       let same = same_leaf a.item.entry a.item.variant b.item.entry b.item.variant i (suc i) (sym a.is ∙ (q ∙ b.is)) in
       one_place (map (λ x. (x.entry, x.variant)) s.entries) stored.entries_rise m n (a.item.entry, a.item.variant) (b.item.entry, b.item.variant)
       (get_mapped (λ (x : EntryItem). (x.entry, x.variant)) s.entries m a.item (placed_is (is_of_word s.lexicon w) s.entries m hm).1)
       (get_mapped (λ (x : EntryItem). (x.entry, x.variant)) s.entries n b.item (placed_is (is_of_word s.lexicon w) s.entries n hn).1) same.0 same.1))
-      (placed_rise (is_of_word s.lexicon w) s.entries)
     where
       same_leaf : (r k q l i j : ℕ) → Leaf r k i j ≡ Leaf q l i j → (r ≡ q) × (k ≡ l)
       same_leaf r k q l i j e = (cc, cc)

@@ -1,7 +1,7 @@
 -- The edge that two edges make.
 use Rattle.std.proofs.Common.{◌≡◌, ◌≢◌, inl, inr, ℕ, suc, ◌+◌, ◌<◌, ◌≤◌, Bool, true, false, List, [], ◌∷◌, ◌++◌, length, append-nil, option_and_then, Some, None, slice_get, refl, sym, ap, ◌∙◌, arith, subst}
 use Rattle.patr_lists.proofs.Places.{get_there}
-use Rattle.patr_parse.proofs.Names.{Value, Atom, Node, Structure, arc, IsReached, IsStructure, IsUnifier, Images, Keeps, Rules, Derivation, Extend, size, IsSolvable, IsLeastValue, some_inj, map_some, arc_value, Feature, Ref, Shown, IsShown, ValueIsHeld, value_of, Extends, with_block, value_below, made_of, Counts, EdgeKind, Rule, Edge, kind_passive, AreEdges, derivations, derived, derived_by, is_judged, Stored, Bounds, HasSource, IsJoined, IsSoundEdge, daughters, Draft, IsDraft, with_root, HasMother, IsRootBy, ArePartners, IsReady}
+use Rattle.patr_parse.proofs.Names.{extends_on, Value, Atom, Node, Structure, arc, IsReached, IsStructure, IsUnifier, Images, Keeps, Rules, Derivation, Extend, size, IsSolvable, IsLeastValue, some_inj, map_some, arc_value, Feature, Ref, Shown, IsShown, ValueIsHeld, value_of, Extends, with_block, value_below, made_of, Counts, EdgeKind, Rule, Edge, kind_passive, AreEdges, derivations, derived, derived_by, is_judged, Stored, Bounds, HasSource, IsJoined, IsSoundEdge, daughters, Draft, IsDraft, with_root, HasMother, IsRootBy, ArePartners, IsReady}
 use Rattle.patr_model.specs.Structure.{at}
 use Rattle.patr_model.specs.Subsumption.{TakesBoth}
 use Rattle.patr_model.specs.Derivation.{seen, IsPartial, IsComplete}
@@ -22,7 +22,7 @@ use Rattle.patr_parse.specs.Joining.{AreWithin}
 use Rattle.patr_parse.proofs.Pairs.{tree_in}
 use Rattle.patr_parse.proofs.Longer.{unifier_sides}
 use Rattle.patr_parse.proofs.Counted.{counts_below}
-use Rattle.patr_parse.proofs.Growing.{back, extends_on}
+use Rattle.patr_parse.proofs.Growing.{back}
 use Rattle.patr_parse.proofs.Renumbered.{IsRenumbered, moved, arc_moved, counts_home, keeps_moved, unifier_moved}
 use Rattle.patr_parse.proofs.Placed.{block_behind, block_moved, home, place, ref_moved}
 

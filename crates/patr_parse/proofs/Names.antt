@@ -4,7 +4,7 @@ pub use Rattle.patr_lists.specs.Members.{IsIn, NoRepeats}
 pub use Rattle.patr_lists.proofs.Members.{in_cases}
 pub use Rattle.std.proofs.lemmas.Option.{slice_get_within}
 pub use Rattle.patr_arena.proofs.Addresses.{value_below}
-pub use Rattle.patr_arena.proofs.Showing.{held_below, same_number_held, still_held}
+pub use Rattle.patr_arena.proofs.Showing.{extends_on, extends_same, held_below, same_number_held, still_held}
 pub use Rattle.patr_arena.specs.Blocks.{Extends, with_block}
 pub use Rattle.patr_arena.specs.Paths.{ids}
 pub use Rattle.patr_arena.specs.Sentences.{sentence_of}

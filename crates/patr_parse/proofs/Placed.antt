@@ -4,6 +4,7 @@ use Rattle.std.specs.Option.{option_map}
 use Rattle.std.specs.List.{sum}
 use Rattle.std.proofs.lemmas.List.{length-map, get_or_append_left, get_or-append-add, take_all}
 use Rattle.std.proofs.Math.ListN.{get_or-map}
+use Rattle.std.proofs.lemmas.Bool.{le-ltb}
 use Rattle.patr_parse.proofs.Names.{Value, Atom, Node, Structure, arc, IsValue, IsStructure, arc_of_longer, arc_value, Ref, Feature, Shown, IsShown, number_of, Extends, with_block, held_below, same_number_held, own, made_of}
 use Rattle.patr_model.specs.Structure.{along}
 use Rattle.patr_arena.specs.declared.value.Ref.TheVariants as ref
@@ -48,20 +49,13 @@ module _ (v w : Shown) (sv : IsShown v) (sw : IsShown w) (e : Extends v w) (node
   pub home : ℕ → ℕ
   home n = cond (nat_lt n P) n (P + (n - Q))
 
-  not_below : (n k : ℕ) → k ≤ n → nat_lt n k ≡ false
-  not_below n k q = go (nat_lt n k) refl
-    where
-      go : (b : Bool) → nat_lt n k ≡ b → b ≡ false
-      go true t = absurd (omega (arith, q, ltb-true n k t))
-      go false t = refl
-
   place_old : (n : ℕ) → n < P → place n ≡ n
   unfolding place
   place_old n q = ap (λ b. cond b n (Q + (n - P))) (lt-ltb n P q)
 
   place_new : (o : ℕ) → place (P + o) ≡ Q + o
   unfolding place
-  place_new o = ap (λ b. cond b (P + o) (Q + ((P + o) - P))) (not_below (P + o) P (omega arith)) ∙ omega arith
+  place_new o = ap (λ b. cond b (P + o) (Q + ((P + o) - P))) (le-ltb (P + o) P (omega arith)) ∙ omega arith
 
   home_old : (n : ℕ) → n < P → home n ≡ n
   unfolding home
@@ -69,7 +63,7 @@ module _ (v w : Shown) (sv : IsShown v) (sw : IsShown w) (e : Extends v w) (node
 
   home_new : (o : ℕ) → home (Q + o) ≡ P + o
   unfolding home
-  home_new o = ap (λ b. cond b (Q + o) (P + ((Q + o) - Q))) (not_below (Q + o) P (omega (arith, longer))) ∙ omega arith
+  home_new o = ap (λ b. cond b (Q + o) (P + ((Q + o) - Q))) (le-ltb (Q + o) P (omega (arith, longer))) ∙ omega arith
 
   -- what a reference stands for goes along
   pub ref_moved : (r : Ref) → OldRefIsHeld v r → made_of w r ≡ moved place (made_of v r)

@@ -1,8 +1,10 @@
 -- What a chart has of the edges that need no passive edge.
 use Rattle.std.proofs.Common.{◌≡◌, ◌⊎◌, inl, inr, ℕ, zero, suc, ◌+◌, ◌<◌, ◌≤◌, Bool, true, false, cond, ◌&&◌, nat_eq, List, [], ◌∷◌, ◌++◌, length, map, get_or, Option, Some, None, slice_get, option_and_then, refl, sym, ap, ◌∙◌, arith, subst, length-append, eqb-true, eq-eqb, nat_lt, ltb-true, ltb-false}
 use Rattle.std.proofs.lemmas.List.{get_or_append_left}
-use Rattle.std.proofs.lemmas.Option.{slice_get_within}
+use Rattle.std.proofs.lemmas.Option.{slice_get_past, slice_get_within}
 use Rattle.patr_lists.specs.Members.{IsIn}
+use Rattle.patr_lists.proofs.Places.{below_or_behind}
+use Rattle.patr_lists.proofs.Conditions.{and_left, and_right, and_both}
 use Rattle.patr_lists.proofs.Members.{in_cases, in_left, in_right, place_of, in_at}
 use Rattle.patr_parse.proofs.Names.{Value, Atom, Node, Structure, Rules, Derivation, Leaf, Begin, Extend, end, IsSolvable, IsLeastValue, InChart, Each, IsNoPair, some_inj, and_then_some, Shown, value_of, Edge, derivations, from_length, RuleItem, EntryItem, Stored, IsStored, rules_of, keys, is_of_word, Mark, AreSound, judge, made_by, Stands, begun_at, begun_by, next_of, HasMark, HasMarkOf, IsAloneEdge, ArePredicted, IsMarked}
 use Rattle.patr_model.specs.Structure.{at}
@@ -24,11 +26,6 @@ use Rattle.patr_library.specs.Stored.{grammar_of, entries_of, number, word_at, i
 use Rattle.patr_parse.specs.Begun.{begun_unless, is_marked}
 use Rattle.patr_parse.proofs.Added.{AreNew, none_new, derivations_new}
 use Rattle.patr_parse.proofs.Items.{rule_item, begun_least, begun_solvable, IsBegun, in_begun, begun_in, once_begun, no_pair_begun}
-
-past : (cs : List ℕ) (n : ℕ) → length cs ≤ n → slice_get cs n ≡ None
-past [] n h = refl
-past (c ∷ cs) zero h = absurd (omega (arith, h))
-past (c ∷ cs) (suc n) h = past cs n (omega (arith, h))
 
 -- ---- what a library states
 
@@ -55,8 +52,8 @@ module _ (s : Stored) where
 
   pub none_next : (t : Derivation) → IsComplete (rules_of s) t → next_of (rules_of s) t ≡ None
   none_next (Leaf e k i j) full = refl
-  none_next (Begin r k i) full = ap (option_and_then (λ (w : RuleVariant). slice_get w.categories 1)) full.1 ∙ past full.0.categories 1 (let q = full.2 in omega (arith, q))
-  none_next (Extend a p) full = ap (option_and_then (λ (w : RuleVariant). slice_get w.categories (suc (suc (derivation.seen a))))) full.1 ∙ past full.0.categories (suc (suc (derivation.seen a))) (let q = full.2 in omega (arith, q))
+  none_next (Begin r k i) full = ap (option_and_then (λ (w : RuleVariant). slice_get w.categories 1)) full.1 ∙ slice_get_past full.0.categories 1 (let q = full.2 in omega (arith, q))
+  none_next (Extend a p) full = ap (option_and_then (λ (w : RuleVariant). slice_get w.categories (suc (suc (derivation.seen a))))) full.1 ∙ slice_get_past full.0.categories (suc (suc (derivation.seen a))) (let q = full.2 in omega (arith, q))
 
   -- a tree that has a next slot is partial
   partial_of : (t : Derivation) (c : ℕ) → next_of (rules_of s) t ≡ Some c → IsPartial (rules_of s) t
@@ -67,15 +64,10 @@ module _ (s : Stored) where
 -- ---- marks
 
 both_true : (a b c d : ℕ) → (nat_eq a b && nat_eq c d) ≡ true → (a ≡ b) × (c ≡ d)
-both_true a b c d h = go (nat_eq a b) refl (nat_eq c d) refl h
-  where
-    go : (x : Bool) → nat_eq a b ≡ x → (y : Bool) → nat_eq c d ≡ y → (x && y) ≡ true → (a ≡ b) × (c ≡ d)
-    go true p true q k = (eqb-true a b p, eqb-true c d q)
-    go true p false q k = cc
-    go false p y q k = cc
+both_true a b c d h = (eqb-true a b (and_left (nat_eq a b) (nat_eq c d) h), eqb-true c d (and_right (nat_eq a b) (nat_eq c d) h))
 
 both_same : (c i : ℕ) → (nat_eq c c && nat_eq i i) ≡ true
-both_same c i = ap (λ x. x && nat_eq i i) (eq-eqb c c refl) ∙ eq-eqb i i refl
+both_same c i = and_both (nat_eq c c) (nat_eq i i) (eq-eqb c c refl) (eq-eqb i i refl)
 
 -- what the marks are with one more
 module _ (old new : List Mark) (c i : ℕ) (h : HasMark old new c i) where
@@ -152,11 +144,7 @@ predicted_next s ws M seen es here next p = record {
 }
   where
     before : (k : ℕ) → k < seen + 1 → (k < seen) ⊎ (k ≡ seen)
-    before k b = go (nat_lt k seen) refl
-      where
-        go : (x : Bool) → nat_lt k seen ≡ x → (k < seen) ⊎ (k ≡ seen)
-        go true q = inl (ltb-true k seen q)
-        go false q = inr (omega (arith, b, ltb-false k seen q))
+    before k b = elim (below_or_behind seen k) [ inl l ↦ inl l | inr r ↦ inr (let is = r.1 in omega (arith, b, is)) ]
 
 -- the word of an entry variant is that of the lexicon's entry
 word_at_is : (s : Stored) (item : EntryItem) (entry : EntryVariant) → entry_variant (rules_of s) item.entry item.variant ≡ Some entry → word_at s.lexicon item.entry ≡ Some entry.word

@@ -1,11 +1,15 @@
 -- Edges are put behind those of a chart, one after another.
-use Rattle.std.proofs.Common.{◌≡◌, ℕ, suc, ◌+◌, ◌<◌, ◌≤◌, Bool, true, List, [], ◌∷◌, ◌++◌, length, take, drop, get_or, map, sym, ap, ◌∙◌, arith, subst, append_assoc, append-nil, length-append}
+use Rattle.std.proofs.Common.{◌≡◌, ℕ, suc, ◌+◌, ◌<◌, ◌≤◌, Bool, true, false, List, [], ◌∷◌, ◌++◌, length, take, drop, get_or, map, sym, ap, ◌∙◌, arith, subst, append_assoc, append-nil, length-append}
 use Rattle.std.proofs.lemmas.List.{length-map, length-take-le, take_more, map-append, take-append-drop}
 use Rattle.std.proofs.Math.Seq.{take-length}
 use Rattle.std.proofs.lemmas.Option.{slice_get_within}
 use Rattle.patr_lists.specs.Numbers.{places}
-use Rattle.patr_parse.proofs.Names.{Id, Rules, Derivation, Each, Shown, Edge, Stored, leaves_at, leaves_from, ArePushed, IsAloneEdge, HasOrigin, IsEdgeAfter, IsIn}
-use Rattle.patr_parse.proofs.Numbers.{has_at}
+use Rattle.patr_lists.proofs.Members.{in_at}
+use Rattle.patr_parse.proofs.Names.{Id, Rules, Derivation, Each, Shown, Edge, Stored, rules_of, leaves_at, leaves_from, ArePushed, IsAloneEdge, HasOrigin, IsEdgeAfter, IsIn}
+use Rattle.patr_library.specs.Stored.{is_of_mother, is_of_word}
+use Rattle.patr_parse.specs.declared.prediction.ItemKind.{ItemKind}
+use Rattle.patr_parse.specs.declared.prediction.ItemKind.TheVariants as kind
+use Rattle.patr_parse.specs.Begun.{places_named, count_of}
 use Rattle.patr_parse.proofs.Items.{placed_is}
 use Rattle.patr_parse.proofs.Added.{each_append, each_length}
 
@@ -56,8 +60,13 @@ module _ (g : Rules) (s : Stored) (v : Shown) where
 -- the numbers of members are below the length
 pub placed_below : {X : Type 0} (test : X → Bool) (xs : List X) (ns : List ℕ) → ns ≡ places test 0 xs → (i : ℕ) → i < length ns → get_or ns i 0 < length xs
 placed_below test xs ns is i here =
-    let p = placed_is test xs (get_or ns i 0) (subst (λ l. IsIn l (get_or ns i 0)) is (has_at ns i 0 here)) in
+    let p = placed_is test xs (get_or ns i 0) (subst (λ l. IsIn l (get_or ns i 0)) is (in_at ns 0 i here)) in
     slice_get_within xs (get_or ns i 0) p.0 p.1
+
+-- the numbers of items are below their count
+pub named_below : (k : ItemKind) (s : Stored) (name : ℕ) (ns : List ℕ) → ns ≡ places_named k s name → (i : ℕ) → i < length ns → get_or ns i 0 < count_of k s
+named_below kind.Rule s name = placed_below (is_of_mother name) s.rules
+named_below kind.Entry s name = placed_below (is_of_word s.lexicon name) s.entries
 
 -- ---- the entries of the first so many words
 
@@ -83,3 +92,19 @@ pub leaves_fit : (s : Stored) (words : List Id) (i : ℕ) → length (leaves_fro
 leaves_fit s words i =
     let split : numbers_of words ≡ numbers_of (take i words) ++ numbers_of (drop i words) = ap numbers_of (sym (take-append-drop i words)) ∙ map-append (λ (w : Id). w.0) (take i words) (drop i words) in
     omega (arith, leaves_less s 0 (numbers_of (take i words)) (numbers_of (drop i words)), ap (λ l. length (leaves_from s 0 l)) split)
+
+-- the entries of one more word are pushed, or there is no room for them
+module _ (s : Stored) (v : Shown) (words : List Id) (i : ℕ) (d : Id) (here : i < length words) (limit : ℕ) (old es new : List Edge)
+    (b : Behind (rules_of s) s v old (leaves_from s 0 (numbers_of (take i words))) es) where
+  abbrev before : List Derivation
+  before = leaves_from s 0 (numbers_of (take i words))
+
+  abbrev next : List Derivation
+  next = leaves_at s (get_or words i d).0 i
+
+  pub word_full : ArePushed (rules_of s) s v limit es next new false → ArePushed (rules_of s) s v limit old (leaves_from s 0 (numbers_of words)) new false
+  word_full full =
+      omega (arith, full, behind_length (rules_of s) s v old es before b, ap length (leaves_next s words i d here), length-append before next, leaves_fit s words (i + 1))
+
+  pub word_more : ArePushed (rules_of s) s v limit es next new true → Behind (rules_of s) s v old (leaves_from s 0 (numbers_of (take (i + 1) words))) new
+  word_more p = subst (λ ts. Behind (rules_of s) s v old ts new) (leaves_next s words i d here) (behind_append (rules_of s) s v old es before next p.0 new b p.1 p.2)

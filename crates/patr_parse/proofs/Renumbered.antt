@@ -9,8 +9,9 @@ use Rattle.patr_model.specs.Structure.{at}
 use Rattle.patr_model.specs.Subsumption.{image, IsMap, MapsInto}
 use Rattle.patr_model.specs.Settled.{SideNode, Left, Right, IsSideNode, image_of, arc_of, IsAlone}
 use Rattle.patr_model.proofs.Maps.{carries, after, after_is_map, image_after, maps_transitive, maps_into_longer, maps_into_shorter}
+use Rattle.patr_model.proofs.EquationStructures.{at_of_longer}
 use Rattle.patr_model.proofs.Steps.{has_place}
-use Rattle.patr_parse.proofs.Longer.{at_same, reached_more, reached_less, reached_value, reached_on}
+use Rattle.patr_parse.proofs.Longer.{reached_more, reached_less, reached_value, reached_on}
 
 -- a value whose node stands elsewhere
 abbrev pub moved : (ℕ → ℕ) → Value → Value
@@ -199,11 +200,11 @@ module _ (b : ℕ) (U W : Structure) (f h : ℕ → ℕ) (m : IsRenumbered b U W
     goes : (t : SideNode) → IsSideNode S l S r t → (y z : Value) × (image_of i t ≡ Some y) × (image from y ≡ Some z) × (image_of small t ≡ Some z)
     unfolding small
     goes (Left n) q =
-        let c = carries (S ++ N) W i.left i.left_map q.0 l (moved f u) i.left_root (Node n) (at_same S N s q.0 l hl ∙ q.1) in
+        let c = carries (S ++ N) W i.left i.left_map q.0 l (moved f u) i.left_root (Node n) (at_of_longer S N s q.0 l hl ∙ q.1) in
         let d = carries W U from from_map q.0 (moved f u) u (image_from u hu) c.0 c.2 in
         (c.0, d.0, c.1, d.1, image_after i.left from (Node n) c.0 d.0 c.1 d.1)
     goes (Right n) q =
-        let c = carries (S ++ N) W i.right i.right_map q.0 r i.place i.right_root (Node n) (at_same S N s q.0 r hr ∙ q.1) in
+        let c = carries (S ++ N) W i.right i.right_map q.0 r i.place i.right_root (Node n) (at_of_longer S N s q.0 r hr ∙ q.1) in
         let d = carries W U from from_map q.0 i.place here.0 here.1 c.0 c.2 in
         (c.0, d.0, c.1, d.1, image_after i.right from (Node n) c.0 d.0 c.1 d.1)
 

@@ -1,10 +1,10 @@
 -- The edges that a task makes.
 use Rattle.std.proofs.Common.{◌≡◌, inl, inr, ℕ, zero, suc, ◌<◌, Bool, true, false, cond, List, [], ◌∷◌, ◌++◌, length, take, get_or, Some, slice_get, refl, sym, ap, ◌∙◌, arith, subst, append_assoc}
 use Rattle.std.proofs.lemmas.List.{map-append}
-use Rattle.std.proofs.lemmas.Option.{slice_get_within}
+use Rattle.std.proofs.lemmas.Option.{slice_get-get_or, slice_get_within}
 use Rattle.patr_lists.proofs.Alls.{all_more}
 use Rattle.patr_lists.proofs.Places.{get_there}
-use Rattle.patr_lists.proofs.Members.{in_cases, in_left, in_right, in_one, once_append, one_place, in_front}
+use Rattle.patr_lists.proofs.Members.{in_cases, in_left, in_right, in_one, once_append, one_place, in_front, in_last, contains_in, place_of}
 use Rattle.patr_lists.specs.Members.{NoRepeats, IsIn}
 use Rattle.patr_parse.proofs.Names.{Rules, Derivation, Begin, Extend, IsSolvable, Shown, Edge, is_passive, AreEdges, partners, derived, derivations, KindsFit, from_length, ArePartners, pair, made_by, Draft, AreMade, IsDraft}
 use Rattle.patr_model.specs.Rounds.{IsAdjacent, IsPairOf, IsYield}
@@ -14,7 +14,7 @@ use Rattle.patr_chart.proofs.Partners.{has_partners}
 use Rattle.patr_chart.proofs.Shown.{pairs_are}
 use Rattle.patr_parse.specs.Tasks.{by_edges}
 use Rattle.patr_parse.specs.Drafts.{AreDrafts, IsDecided, edges_of}
-use Rattle.patr_parse.proofs.Numbers.{Rising, rising_of, has_contains, contains_has, has_last, has_left, has_either, in_taken}
+use Rattle.patr_parse.proofs.Numbers.{Rising, rising_of, in_taken}
 
 pub trees_length : (es : List Edge) → length (derivations es) ≡ length es
 trees_length es = omega (arith, from_length [] es)
@@ -38,8 +38,8 @@ module _ (g : Rules) (v : Shown) (words : ℕ) (es : List Edge) (limit : ℕ) (b
   made_more once js j old new below here fresh m (inl d) = subst (AreMade g v words es limit b k (js ++ j ∷ [])) (sym d.0) (record {
     once = m.once;
     drafts = m.drafts;
-    pairs = λ t h. let p = m.pairs t h in (p.0, has_left js j p.0 p.1, p.2, p.3);
-    every = λ i h q. elim (has_either js j i h) [ inl l ↦ m.every i l q | inr e ↦ absurd (d.1 (subst (λ n. IsSolvable g (pair b es k n)) (sym e) q)) ];
+    pairs = λ t h. let p = m.pairs t h in (p.0, in_left js (j ∷ []) p.0 p.1, p.2, p.3);
+    every = λ i h q. elim (in_cases js (j ∷ []) i h) [ inl l ↦ m.every i l q | inr e ↦ absurd (d.1 (subst (λ n. IsSolvable g (pair b es k n)) (sym (in_one j i e)) q)) ];
   })
   made_more once js j old new below here fresh m (inr d) =
       let x = derived (derivations es) d.0.edge in
@@ -54,22 +54,22 @@ module _ (g : Rules) (v : Shown) (words : ℕ) (es : List Edge) (limit : ℕ) (b
         once = subst NoRepeats (sym more) (once_append ts (x ∷ []) m.once ((λ h. h), tt) apart);
         drafts = subst (AreDrafts v words es limit) (sym d.1) (all_more (IsDraft v words es limit) old d.0 m.drafts d.2.2);
         pairs = λ t h. elim (in_cases ts (x ∷ []) t (subst (λ l. IsIn l t) more h)) [
-          | inl l ↦ (let p = m.pairs t l in (p.0, has_left js j p.0 p.1, p.2, p.3))
-          | inr l ↦ (j, has_last js j, sym (in_one x t l) ∙ is, subst (IsSolvable g) (sym is ∙ in_one x t l) d.2.1)
+          | inl l ↦ (let p = m.pairs t l in (p.0, in_left js (j ∷ []) p.0 p.1, p.2, p.3))
+          | inr l ↦ (j, in_last js j, sym (in_one x t l) ∙ is, subst (IsSolvable g) (sym is ∙ in_one x t l) d.2.1)
         ];
-        every = λ i h q. subst (λ l. IsIn l (pair b es k i)) (sym more) (elim (has_either js j i h) [
+        every = λ i h q. subst (λ l. IsIn l (pair b es k i)) (sym more) (elim (in_cases js (j ∷ []) i h) [
           | inl l ↦ in_left ts (x ∷ []) (pair b es k i) (m.every i l q)
-          | inr l ↦ in_right ts (x ∷ []) (pair b es k i) (inl (is ∙ ap (λ n. pair b es k n) l))
+          | inr l ↦ in_right ts (x ∷ []) (pair b es k i) (inl (is ∙ ap (λ n. pair b es k n) (in_one j i l)))
         ]);
       }
 
 -- the partners of edge k
 module _ (es : List Edge) (k : ℕ) (e : Edge) (at : slice_get es k ≡ Some e) where
   pub is_partner_of : (j : ℕ) → IsIn (partners es k) j → IsPartnerBefore es k e j
-  is_partner_of j h = (has_partners es k e at).adjacent j (has_contains (partners es k) j h)
+  is_partner_of j h = (has_partners es k e at).adjacent j (place_of (partners es k) j j h)
 
   pub partner_has : (j : ℕ) → IsPartnerBefore es k e j → IsIn (partners es k) j
-  partner_has j h = contains_has (partners es k) j ((has_partners es k e at).every j h)
+  partner_has j h = contains_in (partners es k) j ((has_partners es k e at).every j h)
 
   pub rising_partners : Rising 0 (partners es k)
   rising_partners = rising_of 0 (partners es k) (λ h. omega arith) (has_partners es k e at).rising
@@ -86,12 +86,7 @@ module _ (es : List Edge) (k : ℕ) (e : Edge) (at : slice_get es k ≡ Some e) 
 
 -- what an index gives is a member
 pub item_at : {X : Type 0} (xs ys : List X) → xs ≡ ys → (k : ℕ) (d : X) → k < length ys → slice_get ys k ≡ Some (get_or xs k d)
-item_at xs ys same k d h = there ys k d h ∙ ap (λ l. Some (get_or l k d)) (sym same)
-  where
-    there : {Y : Type 0} (zs : List Y) (k : ℕ) (d : Y) → k < length zs → slice_get zs k ≡ Some (get_or zs k d)
-    there [] k d h = absurd (omega (arith, h))
-    there (z ∷ zs) zero d h = refl
-    there (z ∷ zs) (suc k) d h = there zs k d (omega (arith, h))
+item_at xs ys same k d h = slice_get-get_or ys k d h ∙ ap (λ l. Some (get_or l k d)) (sym same)
 
 module _ (g : Rules) (words : ℕ) (es : List Edge) (all : AreEdges words es) (fit : KindsFit g es) (k : ℕ) (e : Edge) (at : slice_get es k ≡ Some e) where
   in_before : (j : ℕ) → j < k → IsIn (take k (derivations es)) (tree es j)

@@ -1,18 +1,19 @@
 -- The passive edges of the start symbol over all the words are the analyses.
 use Rattle.std.proofs.Common.{◌≡◌, ℕ, zero, suc, Bool, true, false, cond, ◌&&◌, nat_eq, eqb-true, eq-eqb, List, [], ◌∷◌, length, take, Option, Some, None, option_and_then, slice_get, refl, sym, ap, ◌∙◌, arith, subst}
 use Rattle.std.proofs.lemmas.Option.{slice_get_within}
-use Rattle.patr_lists.proofs.Alls.{all_get}
+use Rattle.patr_lists.proofs.Conditions.{and_left, and_right}
+use Rattle.patr_lists.proofs.Alls.{all_at, all_get}
 use Rattle.patr_lists.proofs.Places.{get_there}
 use Rattle.patr_lists.proofs.Members.{place_of}
 use Rattle.patr_parse.proofs.Names.{Value, Atom, Node, Structure, Rules, Derivation, Begin, InChart, IsChart, IsSolvable, IsLeastValue, variant_steps, Shown, value_of, EdgeKind, Rule, Edge, is_passive, HasOrigin, AreEdges, derivations, KindsFit, from_length, is_judged, RuleItem, Stored, IsRuleItem, keys, root_of, AreSound, is_whole}
 use Rattle.patr_model.specs.Structure as structure
 use Rattle.patr_model.specs.Category.{atom_of, atom_at}
 use Rattle.patr_model.specs.Derivation.{rule_variant}
-use Rattle.patr_model.specs.Chart.{word, first, predicted, extended, IsDerivation, IsAnalysis}
+use Rattle.patr_model.specs.Chart.{IsAnalysis}
 use Rattle.patr_model.specs.Solved.{solved}
 use Rattle.patr_model.specs.Laws.{HaveLeastValues}
 use Rattle.patr_model.proofs.Categories.{least_into}
-use Rattle.patr_model.proofs.Prediction.{atoms_stay}
+use Rattle.patr_model.proofs.Prediction.{atoms_stay, chart_derivation, chart_solvable}
 use Rattle.patr_chart.specs.declared.edge.EdgeKind.TheVariants.{Entry}
 use Rattle.patr_chart.specs.Charted.{IsAlone, starts_at, tree}
 use Rattle.patr_chart.specs.Laws.{KindFits, IsJudged}
@@ -21,11 +22,6 @@ use Rattle.patr_library.specs.Stored.{HasItems}
 use Rattle.patr_parse.specs.Found.{IsOfItem}
 use Rattle.patr_parse.specs.Analyses.{is_atom, has_category}
 use Rattle.patr_parse.proofs.Tasks.{trees_length}
-use Rattle.patr_parse.proofs.Members.{all_there}
-
-both : (b c : Bool) → b && c ≡ true → (b ≡ true) × (c ≡ true)
-both true c h = (refl, h)
-both false c h = cc
 
 start_says : (e : Edge) → starts_at 0 e ≡ true → (is_passive e ≡ true) × (e.start ≡ 0)
 start_says e h = go (is_passive e) refl h
@@ -43,25 +39,12 @@ atom_there c None h = cc
 atom_there c (Some (Atom d)) h = ap (λ x. Some (Atom x)) (eqb-true d c h)
 atom_there c (Some (Node n)) h = cc
 
-module _ (g : Rules) (cat : ℕ) (ws : List ℕ) where
-  pub chart_derivation : (t : Derivation) → InChart (solved g cat) g ws t → IsDerivation g ws t
-  chart_derivation t (word e k i i' entry q w n edge) = (entry, q, w, n)
-  chart_derivation t (first r k rule q c edge) = (rule, q)
-  chart_derivation t (predicted a r k i h part q edge may) = let solves = edge.2.solves in (solves.0, solves.1)
-  chart_derivation t (extended a p h part hp full q edge) = (chart_derivation a h, chart_derivation p hp, part, full, q)
-
-  pub chart_solvable : (t : Derivation) → InChart (solved g cat) g ws t → IsSolvable g t
-  chart_solvable t (word e k i i' entry q w n edge) = edge
-  chart_solvable t (first r k rule q c edge) = edge
-  chart_solvable t (predicted a r k i h part q edge may) = edge
-  chart_solvable t (extended a p h part hp full q edge) = edge
-
 module _ (g : Rules) (s : Stored) (items : HasItems g s.shown s.rules s.entries) where
   -- an item without daughters fits
   kind_fits : (k : EdgeKind) (e : Edge) → IsOfItem s k → IsAlone k e → KindFits g k
   kind_fits (Entry f w) e i a = tt
   kind_fits (Rule r w item n m) e i a =
-      let q = all_there (IsRuleItem g s.shown) s.rules item i.0 items.rule_items i.1 in (
+      let q = all_at (IsRuleItem g s.shown) s.rules items.rule_items item i.0 i.1 in (
         q.variant,
         ap (λ x. rule_variant g x w) (sym i.2) ∙ (ap (λ x. rule_variant g i.0.rule x) (sym i.3) ∙ q.is),
         omega (arith, i.4, q.slots),
@@ -80,7 +63,7 @@ module _ (g : Rules) (s : Stored) (items : HasItems g s.shown s.rules s.entries)
   rule_least : (r k i : ℕ) → IsSolvable g (Begin r k i) → (M : Structure) × (x : Value) × IsLeastValue g (Begin r k i) M x
   rule_least r k i sol =
       let n = items.every_rule r k i sol in
-      let q = all_there (IsRuleItem g s.shown) s.rules n.0 n.1 items.rule_items n.2 in
+      let q = all_at (IsRuleItem g s.shown) s.rules items.rule_items n.0 n.1 n.2 in
       let is : rule_variant g r k ≡ Some q.variant = ap (λ x. rule_variant g x k) (sym n.3) ∙ (ap (λ x. rule_variant g n.1.rule x) (sym n.4) ∙ q.is) in
       item_least r k i n.1 q is n.1.slots refl
 
@@ -112,20 +95,19 @@ module _ (g : Rules) (s : Stored) (items : HasItems g s.shown s.rules s.entries)
       pub edge_is_analysis : cat ≡ keys.cat → (k : ℕ) (e : Edge) → slice_get es k ≡ Some e → is_whole v (length ws) g.start e ≡ true → IsAnalysis (solved g cat) g ws (tree es k)
       edge_is_analysis is_cat k e at w =
           let of = tree_of words es all k e at in
-          let parts = both (starts_at 0 e) (nat_eq e.end (length ws) && has_category v e.root g.start) w in
-          let from = start_says e parts.0 in
-          let ends = both (nat_eq e.end (length ws)) (has_category v e.root g.start) parts.1 in
+          let from = start_says e (and_left (starts_at 0 e) (nat_eq e.end (length ws) && has_category v e.root g.start) w) in
+          let ends = and_right (starts_at 0 e) (nat_eq e.end (length ws) && has_category v e.root g.start) w in
           record {
             derivation = chart_derivation g cat ws (tree es k) (in_chart k e at);
             complete = (judged k e at).passive from.0;
             start = of.start ∙ from.1;
-            end = of.end ∙ eqb-true e.end (length ws) ends.0;
+            end = of.end ∙ eqb-true e.end (length ws) (and_left (nat_eq e.end (length ws)) (has_category v e.root g.start) ends);
             edge = chart_solvable g cat ws (tree es k) (in_chart k e at);
             whole = (
               v.structure,
               value_of v e.root,
               (sound k e at).value,
-              ap (λ c. structure.at v.structure (value_of v e.root) (c ∷ [])) is_cat ∙ atom_there g.start (structure.at v.structure (value_of v e.root) (keys.cat ∷ [])) ends.1,
+              ap (λ c. structure.at v.structure (value_of v e.root) (c ∷ [])) is_cat ∙ atom_there g.start (structure.at v.structure (value_of v e.root) (keys.cat ∷ [])) (and_right (nat_eq e.end (length ws)) (has_category v e.root g.start) ends),
             );
           }
 

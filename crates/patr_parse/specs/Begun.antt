@@ -12,6 +12,8 @@ use Rattle.patr_chart.specs.Laws.{KindFits}
 use Rattle.patr_library.specs.declared.item.RuleItem.{RuleItem}
 use Rattle.patr_library.specs.declared.item.EntryItem.{EntryItem}
 use Rattle.patr_library.specs.Stored.{Stored, is_of_mother, is_of_word}
+use Rattle.patr_parse.specs.declared.prediction.ItemKind.{ItemKind}
+use Rattle.patr_parse.specs.declared.prediction.ItemKind.TheVariants as kind
 use Rattle.patr_parse.specs.declared.prediction.Mark.{Mark}
 use Rattle.patr_parse.specs.Found.{IsSoundEdge}
 
@@ -34,6 +36,26 @@ leaf_of (Some e) i = Leaf e.entry e.variant i (suc i)
 -- the entry variant of an item, over the word at i
 abbrev pub leaf : Stored → ℕ → ℕ → Derivation
 leaf s i n = leaf_of (slice_get s.entries n) i
+
+-- the items of a mother, or of a word
+abbrev pub places_named : ItemKind → Stored → ℕ → List ℕ
+places_named kind.Rule s c = places (is_of_mother c) 0 s.rules
+places_named kind.Entry s w = places (is_of_word s.lexicon w) 0 s.entries
+
+-- the derivation of an item that stands alone, by its number
+abbrev pub derivation_of : ItemKind → Stored → ℕ → ℕ → Derivation
+derivation_of kind.Rule = begun
+derivation_of kind.Entry = leaf
+
+-- how many items there are
+abbrev pub count_of : ItemKind → Stored → ℕ
+count_of kind.Rule s = length s.rules
+count_of kind.Entry s = length s.entries
+
+-- how many words an item spans that stands alone
+abbrev pub width : ItemKind → ℕ
+width kind.Rule = 0
+width kind.Entry = 1
 
 -- the items with the mother c, begun at i
 abbrev pub begun_at : Stored → ℕ → ℕ → List Derivation

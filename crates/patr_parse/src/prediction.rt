@@ -12,7 +12,7 @@ ghost use Rattle.patr_library.specs.Stored.{rules_of, IsStored};
 ghost use Rattle.patr_parse.specs.Found.{AreSound};
 ghost use Rattle.patr_parse.specs.Tasks.{judge, IsOver, IsReady};
 ghost use Rattle.patr_parse.specs.Standing.{Stands};
-ghost use Rattle.patr_parse.specs.Begun.{begun, leaf, leaves_at, leaves_from, begun_at, begun_unless, begun_by, next_of, is_marked, HasMark, HasMarkOf, IsAloneEdge, ArePushed};
+ghost use Rattle.patr_parse.specs.Begun.{begun, leaf, places_named, derivation_of, count_of, width, leaves_from, begun_unless, begun_by, next_of, is_marked, HasMark, HasMarkOf, IsAloneEdge, ArePushed};
 ghost use Rattle.patr_parse.specs.Predicting.{IsFurther, IsInitialized, IsPrediction};
 
 use crate::draft::root_for;
@@ -110,49 +110,65 @@ fn leaf_edge(library: &Library, arena: &SentenceArena<'_>, number: u32, at: u32)
     }
 }
 
-/// Adds the rules with this mother at a position. False where there would be more edges than the limit.
-fn begin_rules(
-    library: &Library,
-    arena: &SentenceArena<'_>,
-    mother: Id,
-    at: u32,
-    limit: u32,
-    chart: &mut Chart,
-) -> Result<bool, Memory>
-    requires base { IsOver library.now (sentence_of arena.now) }
-    requires at { at ≤ chart.old.words }
-    requires few { length chart.old.edges ≤ limit }
-    ensures pushed { IfOk result (λ done. ArePushed (rules_of library.now) library.now (sentence_of
-        arena.now) limit chart.old.edges (begun_at library.now mother.0 at) chart.new.edges done) }
-    ensures words { IfOk result (λ done. chart.new.words ≡ chart.old.words) }
-{
-    for number in library.rules_of(mother) {
-        if !push_within(chart, begin_edge(library, arena, *number, at), limit)? {
-            return Ok(false);
-        }
-    }
-    Ok(true)
+/// Which items of a library: the rules of a mother, or the entries of a word.
+#[derive(Clone, Copy)]
+enum ItemKind {
+    Rule,
+    Entry,
 }
 
-/// Adds the entries of a word at its place. False where there would be more edges than the limit.
-fn push_leaves(
+/// The places of the items of this mother, or of this word.
+fn items_named<'a>(library: &'a Library, kind: ItemKind, name: Id) -> &'a [u32]
+    ensures { result.now ≡ places_named kind library.now name.0 }
+{
+    match kind {
+        ItemKind::Rule => library.rules_of(name),
+        ItemKind::Entry => library.items_of(name),
+    }
+}
+
+/// A rule without daughters at `at`, or an entry over the word there.
+fn item_edge(
     library: &Library,
     arena: &SentenceArena<'_>,
-    word: Id,
+    kind: ItemKind,
+    number: u32,
+    at: u32,
+) -> Edge
+    requires number { number < count_of kind library.now }
+    requires base { IsOver library.now (sentence_of arena.now) }
+    requires at { width kind ≡ 1 → at < 256 }
+    ensures edge { IsAloneEdge (rules_of library.now) library.now (sentence_of arena.now)
+        (derivation_of kind library.now at number) result }
+    ensures place { (result.start ≡ at) × (result.end ≡ at + width kind) }
+{
+    match kind {
+        ItemKind::Rule => begin_edge(library, arena, number, at),
+        ItemKind::Entry => leaf_edge(library, arena, number, at),
+    }
+}
+
+/// Adds the items of this mother, or of this word, at a position. False where there would be more edges than the limit.
+fn push_items(
+    library: &Library,
+    arena: &SentenceArena<'_>,
+    kind: ItemKind,
+    name: Id,
     at: u32,
     limit: u32,
     chart: &mut Chart,
 ) -> Result<bool, Memory>
     requires base { IsOver library.now (sentence_of arena.now) }
-    requires at { at < chart.old.words }
-    requires small { at < 256 }
+    requires at { at + width kind ≤ chart.old.words }
+    requires small { width kind ≡ 1 → at < 256 }
     requires few { length chart.old.edges ≤ limit }
     ensures pushed { IfOk result (λ done. ArePushed (rules_of library.now) library.now (sentence_of
-        arena.now) limit chart.old.edges (leaves_at library.now word.0 at) chart.new.edges done) }
+        arena.now) limit chart.old.edges (map (derivation_of kind library.now at) (places_named kind
+        library.now name.0)) chart.new.edges done) }
     ensures words { IfOk result (λ done. chart.new.words ≡ chart.old.words) }
 {
-    for number in library.items_of(word) {
-        if !push_within(chart, leaf_edge(library, arena, *number, at), limit)? {
+    for number in items_named(library, kind, name) {
+        if !push_within(chart, item_edge(library, arena, kind, *number, at), limit)? {
             return Ok(false);
         }
     }
@@ -177,7 +193,7 @@ fn push_words(
     ensures words { IfOk result (λ done. chart.new.words ≡ chart.old.words) }
 {
     for (at, word) in words.iter().enumerate() {
-        if !push_leaves(library, arena, *word, at as u32, limit, chart)? {
+        if !push_items(library, arena, ItemKind::Entry, *word, at as u32, limit, chart)? {
             return Ok(false);
         }
     }
@@ -204,7 +220,7 @@ fn predict_category(
     ensures words { IfOk result (λ done. chart.new.words ≡ chart.old.words) }
 {
     if marks.insert(mark)? {
-        begin_rules(library, arena, Id(mark.category), mark.at, limit, chart)
+        push_items(library, arena, ItemKind::Rule, Id(mark.category), mark.at, limit, chart)
     } else {
         Ok(true)
     }
@@ -291,7 +307,7 @@ pub(crate) fn initialize(
         category: start.0,
         at: 0,
     })?;
-    if !begin_rules(library, arena, start, 0, limit, chart)? {
+    if !push_items(library, arena, ItemKind::Rule, start, 0, limit, chart)? {
         return Ok(None);
     }
     Ok(Some(Prediction { marks, seen: 0 }))

@@ -1,10 +1,9 @@
 use Rattle.std.proofs.Common.{◌≡◌, [], true, false, length, map, take, sym, ap, subst, ◌∙◌, ◌++◌, arith, rules}
 use Rattle.std.proofs.lemmas.List.{length-map, take-append-le}
 use Rattle.std.proofs.Math.Seq.{take-length}
-use Rattle.patr_parse.proofs.Names.{Id, HasPairs, sentence_of, derivations, rules_of, judge, made_by, Stands}
+use Rattle.patr_parse.proofs.Names.{extends_on, Id, HasPairs, sentence_of, derivations, rules_of, judge, made_by, Stands}
 use Rattle.patr_parse.proofs.Tasks.{trees_length}
 use Rattle.patr_parse.proofs.Standing.{is_closed, not_more}
-use Rattle.patr_parse.proofs.Growing.{extends_on}
 use Rattle.patr_parse.proofs.Ready.{small_first, ready, items_there, predictions_stay}
 use Rattle.patr_parse.proofs.closing.close.Goals as goal
 

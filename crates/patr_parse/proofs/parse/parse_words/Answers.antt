@@ -1,7 +1,6 @@
 use Rattle.std.proofs.Common.{◌≡◌, ℕ, true, false, rules, List, map, Bor, length, refl, sym, ap, ◌∙◌, subst, arith}
-use Rattle.patr_parse.proofs.Names.{Extends, ids, sentence_of, IsShown, rules_of, keys, HasMoreThan, AreAll, AreSound, judge}
+use Rattle.patr_parse.proofs.Names.{extends_same, Extends, ids, sentence_of, IsShown, rules_of, keys, HasMoreThan, AreAll, AreSound, judge}
 use Rattle.patr_parse.specs.Closing.{IsClosed}
-use Rattle.patr_parse.proofs.Growing.{extends_same}
 use Rattle.patr_parse.proofs.Sound.{numbers_short}
 use Rattle.patr_parse.proofs.parse.parse_words.Goals as goal
 

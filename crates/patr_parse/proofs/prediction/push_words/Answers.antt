@@ -1,7 +1,7 @@
 use Rattle.std.proofs.Common.{◌≡◌, ◌<◌, ◌+◌, true, length, take, get_or, refl, ap, ◌∙◌, subst, arith, length-append}
 use Rattle.std.proofs.Math.Seq.{take-length}
 use Rattle.patr_parse.proofs.Names.{sentence_of, rules_of, leaves_at, leaves_from, ArePushed}
-use Rattle.patr_parse.proofs.Pushed.{numbers_of, Behind, behind_none, behind_append, behind_length, leaves_next, leaves_fit}
+use Rattle.patr_parse.proofs.Pushed.{numbers_of, Behind, behind_none, word_full, word_more}
 use Rattle.patr_parse.proofs.prediction.push_words.Goals as goal
 
 pub loop-at-init : goal.loop-at-init
@@ -9,35 +9,16 @@ loop-at-init c = record { pushed = behind_none (rules_of c.args.library.now) c.a
 
 pub returns-then-not-branch-clause-pushed : goal.returns-then-not-branch-clause-pushed
 returns-then-not-branch-clause-pushed c =
-    let s = c.args.library.now in
-    let r = rules_of s in
-    let v = sentence_of c.args.arena.now in
-    let ws = c.args.words.now in
-    let i = c.loop-at.at in
-    let here : i < length ws = omega arith in
-    let es = c.loop-at.chart.edges in
-    let ts = leaves_at s (get_or ws i (record { 0 = 0 })).0 i in
-    let full : c.args.limit < length es + length ts = subst (λ b. ArePushed r s v c.args.limit es ts c.push_leaves.new.chart.edges b) c.if-not-branch.true c.in_ok-push_leaves.ensures.pushed in
-    let so_far = behind_length r s v c.args.chart.now.edges es (leaves_from s 0 (numbers_of (take i ws))) c.loop-at.invariant.pushed in
-    let next = ap length (leaves_next s ws i (record { 0 = 0 }) here) in
-    omega (arith, full, so_far, next, length-append (leaves_from s 0 (numbers_of (take i ws))) ts, leaves_fit s ws (i + 1))
+    word_full c.args.library.now (sentence_of c.args.arena.now) c.args.words.now c.loop-at.at (record { 0 = 0 }) (omega arith) c.args.limit c.args.chart.now.edges c.loop-at.chart.edges c.push_items.new.chart.edges c.loop-at.invariant.pushed
+    (rw c.if-not-branch.true at c.in_ok-push_items.ensures.pushed)
 
 pub loop-at-preserved : goal.loop-at-preserved
 loop-at-preserved c =
-    let s = c.args.library.now in
-    let r = rules_of s in
-    let v = sentence_of c.args.arena.now in
-    let ws = c.args.words.now in
-    let i = c.loop-at.at in
-    let here : i < length ws = omega arith in
-    let es = c.loop-at.chart.edges in
-    let ts = leaves_at s (get_or ws i (record { 0 = 0 })).0 i in
-    let pushed : ArePushed r s v c.args.limit es ts c.push_leaves.new.chart.edges true = subst (λ b. ArePushed r s v c.args.limit es ts c.push_leaves.new.chart.edges b) c.if-not-branch.false c.in_ok-push_leaves.ensures.pushed in
-    let more = behind_append r s v c.args.chart.now.edges es (leaves_from s 0 (numbers_of (take i ws))) ts pushed.0 c.push_leaves.new.chart.edges c.loop-at.invariant.pushed pushed.1 pushed.2 in
+    let pushed = rw c.if-not-branch.false at c.in_ok-push_items.ensures.pushed in
     record {
-      pushed = subst (λ l. Behind r s v c.args.chart.now.edges l c.push_leaves.new.chart.edges) (leaves_next s ws i (record { 0 = 0 }) here) more;
+      pushed = word_more c.args.library.now (sentence_of c.args.arena.now) c.args.words.now c.loop-at.at (record { 0 = 0 }) (omega arith) c.args.limit c.args.chart.now.edges c.loop-at.chart.edges c.push_items.new.chart.edges c.loop-at.invariant.pushed pushed;
       few = pushed.3;
-      words = c.in_ok-push_leaves.ensures.words ∙ c.loop-at.invariant.words;
+      words = c.in_ok-push_items.ensures.words ∙ c.loop-at.invariant.words;
     }
 
 pub returns-clause-pushed : goal.returns-clause-pushed

@@ -1,8 +1,7 @@
 use Rattle.std.proofs.Common.{◌≡◌, ◌∙◌, ◌++◌, ◌∷◌, [], length, length-append, refl, sym, ap, subst, rules, arith, append_assoc, append-nil}
 use Rattle.std.specs.Vec.Iter.{into_iter_items, into_iter_len}
 use Rattle.std.proofs.lemmas.List.{nil_from_length}
-use Rattle.patr_parse.proofs.Names.{sentence_of, IsEdgeAfter, ArePlaced}
-use Rattle.patr_parse.proofs.Growing.{extends_same}
+use Rattle.patr_parse.proofs.Names.{extends_same, sentence_of, IsEdgeAfter, ArePlaced}
 use Rattle.patr_parse.proofs.Drafted.{next_draft, placed_more}
 use Rattle.patr_parse.proofs.rounds.push_all.Goals as goal
 
