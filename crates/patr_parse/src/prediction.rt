@@ -193,7 +193,15 @@ fn push_words(
     ensures words { IfOk result (λ done. chart.new.words ≡ chart.old.words) }
 {
     for (at, word) in words.iter().enumerate() {
-        if !push_items(library, arena, ItemKind::Entry, *word, at as u32, limit, chart)? {
+        if !push_items(
+            library,
+            arena,
+            ItemKind::Entry,
+            *word,
+            at as u32,
+            limit,
+            chart,
+        )? {
             return Ok(false);
         }
     }
@@ -220,7 +228,15 @@ fn predict_category(
     ensures words { IfOk result (λ done. chart.new.words ≡ chart.old.words) }
 {
     if marks.insert(mark)? {
-        push_items(library, arena, ItemKind::Rule, Id(mark.category), mark.at, limit, chart)
+        push_items(
+            library,
+            arena,
+            ItemKind::Rule,
+            Id(mark.category),
+            mark.at,
+            limit,
+            chart,
+        )
     } else {
         Ok(true)
     }
