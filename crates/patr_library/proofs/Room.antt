@@ -63,6 +63,7 @@ decision_room v sv w l r left_held right_held nodes arcs within room =
       room = record {
         for_places = room.for_places;
         for_visits = (let most = room.for_visits in omega (arith, few.0, most));
+        for_order = (let most = room.for_order in omega (arith, few.0, most));
         for_arcs = (let most = room.for_arcs in omega (arith, few.1, most));
         for_pairs = (let most = room.for_pairs in omega (arith, few.1, most));
       };

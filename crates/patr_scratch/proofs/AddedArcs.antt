@@ -123,15 +123,15 @@ front_places ms cells k new i l e =
           ∙ (sym (place_by ms cells i j) ∙ (sym (place_at cells ms j) ∙ sym (get_or-set_other (map (place_of cells) ms) k j p unmarked g.0))))
     ]))
 
-pub with_arc_view : (ms : List Mark) (arcs : WithRoom ArcCell) (pairs : WithRoom (Target × Target)) (visits : WithRoom Place) (now : Contents) (s : Side) (n : ℕ) (new : ArcCell) → IsLinked ms arcs.list
-    → contents_of ms arcs pairs visits ≡ now → HasPlace now s n → new.next ≡ first_of (mark_at ms (slot s n)).added
-    → contents_of (set ms (slot s n) (front_mark ms (slot s n) (length arcs.list))) (record { list = arcs.list ++ new ∷ []; room = arcs.room }) pairs visits ≡ with_arc now s n new.attribute new.to
-with_arc_view ms arcs pairs visits now s n new i e h f =
+pub with_arc_view : (ms : List Mark) (arcs : WithRoom ArcCell) (pairs : WithRoom (Target × Target)) (visits order : WithRoom Place) (now : Contents) (s : Side) (n : ℕ) (new : ArcCell) → IsLinked ms arcs.list
+    → contents_of ms arcs pairs visits order ≡ now → HasPlace now s n → new.next ≡ first_of (mark_at ms (slot s n)).added
+    → contents_of (set ms (slot s n) (front_mark ms (slot s n) (length arcs.list))) (record { list = arcs.list ++ new ∷ []; room = arcs.room }) pairs visits order ≡ with_arc now s n new.attribute new.to
+with_arc_view ms arcs pairs visits order now s n new i e h f =
     let k = slot s n in
-    let was = contents_of ms arcs pairs visits in
+    let was = contents_of ms arcs pairs visits order in
     let l : k < length ms = omega (arith, h, ap (λ (v : Contents). length v.places) e, length-map ms (place_of arcs.list)) in
     let cells' : WithRoom ArcCell = record { list = arcs.list ++ new ∷ []; room = arcs.room } in
-    ap (λ ps. record (contents_of ms cells' pairs visits) { places = ps })
+    ap (λ ps. record (contents_of ms cells' pairs visits order) { places = ps })
     (front_places ms arcs.list k new i l f
     ∙ ap (λ (p : PlaceMarks). set (map (place_of arcs.list) ms) k (record p { added = record { cell = length arcs.list; attribute = new.attribute; to = new.to } ∷ p.added })) (sym (place_at arcs.list ms k)))
     ∙ (ap (λ m. record (put was s n (record (marks was s n) { added = record { cell = length arcs.list; attribute = new.attribute; to = new.to } ∷ (marks was s n).added })) { arcs = m }) (length-append arcs.list (new ∷ []))

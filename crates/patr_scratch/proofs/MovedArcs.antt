@@ -162,22 +162,22 @@ moved_places ms cells A B a i n lA lB e =
       ]
     ]))
 
-pub moved_view : (ms : List Mark) (arcs : WithRoom ArcCell) (pairs : WithRoom (Target × Target)) (visits : WithRoom Place) (now : Contents) (s t : Side) (m n : ℕ) (a : Ends) → IsLinked ms arcs.list
-    → contents_of ms arcs pairs visits ≡ now → HasPlace now s m → HasPlace now t n → slot s m ≢ slot t n → (mark_at ms (slot s m)).added ≡ Some a
-    → contents_of (moved_marks ms (slot s m) (slot t n) a) (record { list = relink arcs.list a.last (first_of (mark_at ms (slot t n)).added); room = arcs.room }) pairs visits ≡ with_moved now s m t n
-moved_view ms arcs pairs visits now s t m n a i e hA hB ne f =
+pub moved_view : (ms : List Mark) (arcs : WithRoom ArcCell) (pairs : WithRoom (Target × Target)) (visits order : WithRoom Place) (now : Contents) (s t : Side) (m n : ℕ) (a : Ends) → IsLinked ms arcs.list
+    → contents_of ms arcs pairs visits order ≡ now → HasPlace now s m → HasPlace now t n → slot s m ≢ slot t n → (mark_at ms (slot s m)).added ≡ Some a
+    → contents_of (moved_marks ms (slot s m) (slot t n) a) (record { list = relink arcs.list a.last (first_of (mark_at ms (slot t n)).added); room = arcs.room }) pairs visits order ≡ with_moved now s m t n
+moved_view ms arcs pairs visits order now s t m n a i e hA hB ne f =
     let A = slot s m in
     let B = slot t n in
     let cells = arcs.list in
     let lA : A < length ms = omega (arith, hA, ap (λ (v : Contents). length v.places) e, length-map ms (place_of cells)) in
     let lB : B < length ms = omega (arith, hB, ap (λ (v : Contents). length v.places) e, length-map ms (place_of cells)) in
     let arcs' : WithRoom ArcCell = record { list = relink cells a.last (first_of (mark_at ms B).added); room = arcs.room } in
-    ap (λ ps. record (contents_of ms arcs' pairs visits) { places = ps })
+    ap (λ ps. record (contents_of ms arcs' pairs visits order) { places = ps })
     (moved_places ms cells A B a i ne lA lB f
     ∙ (ap (λ (p : PlaceMarks). set (set (map (place_of cells) ms) B (record (place_of cells (mark_at ms B)) { added = p.added ++ (place_of cells (mark_at ms B)).added })) A (record p { added = [] })) (sym (place_at cells ms A))
     ∙ ap (λ (p : PlaceMarks). set (set (map (place_of cells) ms) B (record p { added = (get_or (map (place_of cells) ms) A unmarked).added ++ p.added })) A (record (get_or (map (place_of cells) ms) A unmarked) { added = [] })) (sym (place_at cells ms B))))
-    ∙ (ap (λ k. record (contents_of ms arcs pairs visits) {
-      places = set (set (map (place_of cells) ms) B (record (marks (contents_of ms arcs pairs visits) t n) { added = (marks (contents_of ms arcs pairs visits) s m).added ++ (marks (contents_of ms arcs pairs visits) t n).added })) A (record (marks (contents_of ms arcs pairs visits) s m) { added = [] });
+    ∙ (ap (λ k. record (contents_of ms arcs pairs visits order) {
+      places = set (set (map (place_of cells) ms) B (record (marks (contents_of ms arcs pairs visits order) t n) { added = (marks (contents_of ms arcs pairs visits order) s m).added ++ (marks (contents_of ms arcs pairs visits order) t n).added })) A (record (marks (contents_of ms arcs pairs visits order) s m) { added = [] });
       arcs = k;
     }) (length-set cells a.last (record (cell_at cells a.last) { next = first_of (mark_at ms B).added }))
     ∙ ap (λ v. with_moved v s m t n) e)
@@ -191,10 +191,10 @@ nothing_moved v s t m n e =
     ap (λ us. put v s m (record (marks v s m) { added = us })) (sym e) ∙ ap (λ ps. record v { places = ps }) (set-get_or v.places (slot s m) unmarked) in
     sym (ap (λ u. put u s m (record (marks v s m) { added = [] })) one ∙ two)
 
-pub list_empty : (ms : List Mark) (arcs : WithRoom ArcCell) (pairs : WithRoom (Target × Target)) (visits : WithRoom Place) (now : Contents) (s : Side) (n k : ℕ) (m : Mark)
-    → contents_of ms arcs pairs visits ≡ now → k ≡ slot s n → m ≡ mark_at ms k → m.added ≡ None → (marks now s n).added ≡ []
-list_empty ms arcs pairs visits now s n k m e q h z =
-    ap (λ (p : PlaceMarks). p.added) (sym (place_is ms arcs pairs visits now s n k m e q h)) ∙ (ap (λ o. read (length arcs.list) arcs.list (first_of o)) z ∙ read_none (length arcs.list) arcs.list)
+pub list_empty : (ms : List Mark) (arcs : WithRoom ArcCell) (pairs : WithRoom (Target × Target)) (visits order : WithRoom Place) (now : Contents) (s : Side) (n k : ℕ) (m : Mark)
+    → contents_of ms arcs pairs visits order ≡ now → k ≡ slot s n → m ≡ mark_at ms k → m.added ≡ None → (marks now s n).added ≡ []
+list_empty ms arcs pairs visits order now s n k m e q h z =
+    ap (λ (p : PlaceMarks). p.added) (sym (place_is ms arcs pairs visits order now s n k m e q h)) ∙ (ap (λ o. read (length arcs.list) arcs.list (first_of o)) z ∙ read_none (length arcs.list) arcs.list)
 
 -- the last cell of a list is one of the cells
 pub last_below : (ms : List Mark) (cells : List ArcCell) (k : ℕ) (m : Mark) (a : Ends) → IsLinked ms cells → m ≡ mark_at ms k → m.added ≡ Some a → a.last < length cells

@@ -63,24 +63,24 @@ places_blank cells zero = refl
 places_blank cells (suc n) = ap (λ p. p ∷ map (place_of cells) (no_marks n)) (place_blank cells) ∙ ap (λ ps. unmarked ∷ ps) (places_blank cells n)
 
 -- what the contents have at a place
-pub place_is : (ms : List Mark) (arcs : WithRoom ArcCell) (pairs : WithRoom (Target × Target)) (visits : WithRoom Place) (now : Contents) (s : Side) (n k : ℕ) (m : Mark)
-    → contents_of ms arcs pairs visits ≡ now → k ≡ slot s n → m ≡ mark_at ms k → place_of arcs.list m ≡ marks now s n
-place_is ms arcs pairs visits now s n k m e q h =
+pub place_is : (ms : List Mark) (arcs : WithRoom ArcCell) (pairs : WithRoom (Target × Target)) (visits order : WithRoom Place) (now : Contents) (s : Side) (n k : ℕ) (m : Mark)
+    → contents_of ms arcs pairs visits order ≡ now → k ≡ slot s n → m ≡ mark_at ms k → place_of arcs.list m ≡ marks now s n
+place_is ms arcs pairs visits order now s n k m e q h =
     ap (place_of arcs.list) h ∙ (sym (place_at arcs.list ms k) ∙ (ap (get_or_at (map (place_of arcs.list) ms)) q ∙ ap (λ (v : Contents). marks v s n) e))
   where
     get_or_at : List PlaceMarks → ℕ → PlaceMarks
     get_or_at ps j = get_or ps j unmarked
 
 -- a mark is changed
-pub mark_changed : (ms : List Mark) (arcs : WithRoom ArcCell) (pairs : WithRoom (Target × Target)) (visits : WithRoom Place) (now : Contents) (s : Side) (n k : ℕ) (ms' : List Mark) (f : Mark → Mark) (g : PlaceMarks → PlaceMarks)
-    → contents_of ms arcs pairs visits ≡ now → k ≡ slot s n → ms' ≡ set ms k (f (mark_at ms k)) → ((m : Mark) → place_of arcs.list (f m) ≡ g (place_of arcs.list m)) → contents_of ms' arcs pairs visits ≡ put now s n (g (marks now s n))
-mark_changed ms arcs pairs visits now s n k ms' f g e q w h =
+pub mark_changed : (ms : List Mark) (arcs : WithRoom ArcCell) (pairs : WithRoom (Target × Target)) (visits order : WithRoom Place) (now : Contents) (s : Side) (n k : ℕ) (ms' : List Mark) (f : Mark → Mark) (g : PlaceMarks → PlaceMarks)
+    → contents_of ms arcs pairs visits order ≡ now → k ≡ slot s n → ms' ≡ set ms k (f (mark_at ms k)) → ((m : Mark) → place_of arcs.list (f m) ≡ g (place_of arcs.list m)) → contents_of ms' arcs pairs visits order ≡ put now s n (g (marks now s n))
+mark_changed ms arcs pairs visits order now s n k ms' f g e q w h =
     let p : PlaceMarks = g (marks now s n) in
-    let is : place_of arcs.list (f (mark_at ms k)) ≡ p = h (mark_at ms k) ∙ ap g (place_is ms arcs pairs visits now s n k (mark_at ms k) e q refl) in
-    ap (λ us. contents_of us arcs pairs visits) w
-    ∙ (ap (λ ps. record (contents_of ms arcs pairs visits) { places = ps }) (map-set (place_of arcs.list) ms k (f (mark_at ms k)))
-    ∙ (ap (λ u. record (contents_of ms arcs pairs visits) { places = set (map (place_of arcs.list) ms) k u }) is
-    ∙ (ap (λ j. record (contents_of ms arcs pairs visits) { places = set (map (place_of arcs.list) ms) j p }) q
+    let is : place_of arcs.list (f (mark_at ms k)) ≡ p = h (mark_at ms k) ∙ ap g (place_is ms arcs pairs visits order now s n k (mark_at ms k) e q refl) in
+    ap (λ us. contents_of us arcs pairs visits order) w
+    ∙ (ap (λ ps. record (contents_of ms arcs pairs visits order) { places = ps }) (map-set (place_of arcs.list) ms k (f (mark_at ms k)))
+    ∙ (ap (λ u. record (contents_of ms arcs pairs visits order) { places = set (map (place_of arcs.list) ms) k u }) is
+    ∙ (ap (λ j. record (contents_of ms arcs pairs visits order) { places = set (map (place_of arcs.list) ms) j p }) q
     ∙ ap (λ (v : Contents). put v s n p) e)))
 
 -- a cell in range is read whatever the default is
@@ -90,26 +90,26 @@ get_or_any (x ∷ xs) zero d e h = refl
 get_or_any (x ∷ xs) (suc k) d e h = get_or_any xs k d e (omega (arith, h))
 
 -- the list of a place
-pub list_is : (ms : List Mark) (arcs : WithRoom ArcCell) (pairs : WithRoom (Target × Target)) (visits : WithRoom Place) (now : Contents) (i : IsLinked ms arcs.list) (s : Side) (n : ℕ)
-    → contents_of ms arcs pairs visits ≡ now → (marks now s n).added ≡ links arcs.list (i.lists (slot s n))
-list_is ms arcs pairs visits now i s n e =
-    ap (λ (p : PlaceMarks). p.added) (sym (place_is ms arcs pairs visits now s n (slot s n) (mark_at ms (slot s n)) e refl refl)) ∙ linked_read ms arcs.list i (slot s n)
+pub list_is : (ms : List Mark) (arcs : WithRoom ArcCell) (pairs : WithRoom (Target × Target)) (visits order : WithRoom Place) (now : Contents) (i : IsLinked ms arcs.list) (s : Side) (n : ℕ)
+    → contents_of ms arcs pairs visits order ≡ now → (marks now s n).added ≡ links arcs.list (i.lists (slot s n))
+list_is ms arcs pairs visits order now i s n e =
+    ap (λ (p : PlaceMarks). p.added) (sym (place_is ms arcs pairs visits order now s n (slot s n) (mark_at ms (slot s n)) e refl refl)) ∙ linked_read ms arcs.list i (slot s n)
 
-pub cell_below : (ms : List Mark) (arcs : WithRoom ArcCell) (pairs : WithRoom (Target × Target)) (visits : WithRoom Place) (now : Contents) (c : ℕ) → IsLinked ms arcs.list
-    → contents_of ms arcs pairs visits ≡ now → IsCell now c → c < length arcs.list
-cell_below ms arcs pairs visits now c i e h =
+pub cell_below : (ms : List Mark) (arcs : WithRoom ArcCell) (pairs : WithRoom (Target × Target)) (visits order : WithRoom Place) (now : Contents) (c : ℕ) → IsLinked ms arcs.list
+    → contents_of ms arcs pairs visits order ≡ now → IsCell now c → c < length arcs.list
+cell_below ms arcs pairs visits order now c i e h =
     let k = slot h.0 h.1 in
-    let has : HasCell (links arcs.list (i.lists k)) c = subst (λ ls. HasCell ls c) (list_is ms arcs pairs visits now i h.0 h.1 e) h.3 in
+    let has : HasCell (links arcs.list (i.lists k)) c = subst (λ ls. HasCell ls c) (list_is ms arcs pairs visits order now i h.0 h.1 e) h.3 in
     list_below arcs.list (first_of (mark_at ms k).added) (i.lists k) c (i.each k) (has_cell_in arcs.list (i.lists k) c has)
 
-pub cell_read : (ms : List Mark) (arcs : WithRoom ArcCell) (pairs : WithRoom (Target × Target)) (visits : WithRoom Place) (now : Contents) (c : ℕ) (r : ArcCell) (next : Option ℕ) → IsLinked ms arcs.list
-    → contents_of ms arcs pairs visits ≡ now → IsCell now c → r ≡ get_or arcs.list c r → next ≡ r.next → (s : Side) (n : ℕ) → HasPlace now s n → HasCell (marks now s n).added c
+pub cell_read : (ms : List Mark) (arcs : WithRoom ArcCell) (pairs : WithRoom (Target × Target)) (visits order : WithRoom Place) (now : Contents) (c : ℕ) (r : ArcCell) (next : Option ℕ) → IsLinked ms arcs.list
+    → contents_of ms arcs pairs visits order ≡ now → IsCell now c → r ≡ get_or arcs.list c r → next ≡ r.next → (s : Side) (n : ℕ) → HasPlace now s n → HasCell (marks now s n).added c
     → (after (marks now s n).added (Some c) ≡ record { cell = c; attribute = r.attribute; to = r.to } ∷ after (marks now s n).added next) × EndsOrHas (marks now s n).added next
-cell_read ms arcs pairs visits now c r next i e is g f s n p h =
+cell_read ms arcs pairs visits order now c r next i e is g f s n p h =
     let k = slot s n in
-    let l = list_is ms arcs pairs visits now i s n e in
+    let l = list_is ms arcs pairs visits order now i s n e in
     let ks = links arcs.list (i.lists k) in
-    let below : c < length arcs.list = cell_below ms arcs pairs visits now c i e is in
+    let below : c < length arcs.list = cell_below ms arcs pairs visits order now c i e is in
     let this : cell_at arcs.list c ≡ r = get_or_any arcs.list c no_cell r below ∙ sym g in
     let has : HasCell (links arcs.list (i.lists k)) c = subst (λ ls. HasCell ls c) l h in
     let w = after_cell arcs.list (first_of (mark_at ms k).added) (i.lists k) c (i.each k) (i.once k) (has_cell_in arcs.list (i.lists k) c has) in
@@ -117,29 +117,30 @@ cell_read ms arcs pairs visits now c r next i e is g f s n p h =
     (subst (λ ls. (after ls (Some c) ≡ link_at arcs.list c ∷ after ls next) × EndsOrHas ls next) (sym l)
     (subst (λ o. (after ks (Some c) ≡ link_at arcs.list c ∷ after ks o) × EndsOrHas ks o) (ap (λ (d : ArcCell). d.next) this ∙ sym f) w))
 
-pub first_is : (ms : List Mark) (arcs : WithRoom ArcCell) (pairs : WithRoom (Target × Target)) (visits : WithRoom Place) (now : Contents) (s : Side) (n k : ℕ) (m : Mark) → IsLinked ms arcs.list
-    → contents_of ms arcs pairs visits ≡ now → k ≡ slot s n → m ≡ mark_at ms k → first_of m.added ≡ first_cell (marks now s n).added
-first_is ms arcs pairs visits now s n k m i e q h =
+pub first_is : (ms : List Mark) (arcs : WithRoom ArcCell) (pairs : WithRoom (Target × Target)) (visits order : WithRoom Place) (now : Contents) (s : Side) (n k : ℕ) (m : Mark) → IsLinked ms arcs.list
+    → contents_of ms arcs pairs visits order ≡ now → k ≡ slot s n → m ≡ mark_at ms k → first_of m.added ≡ first_cell (marks now s n).added
+first_is ms arcs pairs visits order now s n k m i e q h =
     let j = slot s n in
     ap (λ (u : Mark). first_of u.added) (h ∙ ap (mark_at ms) q)
-    ∙ (sym (links_first arcs.list (first_of (mark_at ms j).added) (i.lists j) (i.each j)) ∙ ap first_cell (sym (list_is ms arcs pairs visits now i s n e)))
+    ∙ (sym (links_first arcs.list (first_of (mark_at ms j).added) (i.lists j) (i.each j)) ∙ ap first_cell (sym (list_is ms arcs pairs visits order now i s n e)))
 
-pub begun_view : (ms : List Mark) (arcs : WithRoom ArcCell) (pairs : WithRoom (Target × Target)) (visits : WithRoom Place) (now : Contents) (ms' : List Mark) (arcs' : WithRoom ArcCell) (pairs' : WithRoom (Target × Target)) (visits' : WithRoom Place)
-    → contents_of ms arcs pairs visits ≡ now → ms' ≡ no_marks (length ms) → arcs' ≡ record { list = []; room = arcs.room } → pairs' ≡ record { list = []; room = pairs.room } → visits' ≡ record { list = []; room = visits.room }
-    → contents_of ms' arcs' pairs' visits' ≡ begun now
-begun_view ms arcs pairs visits now ms' arcs' pairs' visits' e q a p v =
+pub begun_view : (ms : List Mark) (arcs : WithRoom ArcCell) (pairs : WithRoom (Target × Target)) (visits order : WithRoom Place) (now : Contents) (ms' : List Mark) (arcs' : WithRoom ArcCell) (pairs' : WithRoom (Target × Target)) (visits' order' : WithRoom Place)
+    → contents_of ms arcs pairs visits order ≡ now → ms' ≡ no_marks (length ms) → arcs' ≡ record { list = []; room = arcs.room } → pairs' ≡ record { list = []; room = pairs.room } → visits' ≡ record { list = []; room = visits.room } → order' ≡ record { list = []; room = order.room }
+    → contents_of ms' arcs' pairs' visits' order' ≡ begun now
+begun_view ms arcs pairs visits order now ms' arcs' pairs' visits' order' e q a p v o =
     let fa : WithRoom ArcCell = record { list = []; room = arcs.room } in
     let fp : WithRoom (Target × Target) = record { list = []; room = pairs.room } in
     let fv : WithRoom Place = record { list = []; room = visits.room } in
-    let one : contents_of ms' arcs' pairs' visits' ≡ contents_of (no_marks (length ms)) fa fp fv = cc in
+    let fo : WithRoom Place = record { list = []; room = order.room } in
+    let one : contents_of ms' arcs' pairs' visits' order' ≡ contents_of (no_marks (length ms)) fa fp fv fo = cc in
     one
-    ∙ (ap (λ ps. record (contents_of (no_marks (length ms)) fa fp fv) { places = ps }) (places_blank [] (length ms) ∙ ap (λ n. replicate n unmarked) (sym (length-map ms (place_of arcs.list))))
+    ∙ (ap (λ ps. record (contents_of (no_marks (length ms)) fa fp fv fo) { places = ps }) (places_blank [] (length ms) ∙ ap (λ n. replicate n unmarked) (sym (length-map ms (place_of arcs.list))))
     ∙ ap begun e)
 
 -- a scratch that holds nothing holds nothing with more room
-pub blank_grown : (ms : List Mark) (arcs : WithRoom ArcCell) (pairs : WithRoom (Target × Target)) (visits : WithRoom Place) (was : Contents) (n : ℕ) (ms' : List Mark) (arcs' : WithRoom ArcCell) (pairs' : WithRoom (Target × Target)) (visits' : WithRoom Place)
-    → contents_of ms arcs pairs visits ≡ begun was → ms' ≡ ms ++ no_marks n → arcs'.list ≡ arcs.list → pairs'.list ≡ pairs.list → visits'.list ≡ visits.list → IsBlank (contents_of ms' arcs' pairs' visits')
-blank_grown ms arcs pairs visits was n ms' arcs' pairs' visits' e m a p v =
+pub blank_grown : (ms : List Mark) (arcs : WithRoom ArcCell) (pairs : WithRoom (Target × Target)) (visits order : WithRoom Place) (was : Contents) (n : ℕ) (ms' : List Mark) (arcs' : WithRoom ArcCell) (pairs' : WithRoom (Target × Target)) (visits' order' : WithRoom Place)
+    → contents_of ms arcs pairs visits order ≡ begun was → ms' ≡ ms ++ no_marks n → arcs'.list ≡ arcs.list → pairs'.list ≡ pairs.list → visits'.list ≡ visits.list → order'.list ≡ order.list → IsBlank (contents_of ms' arcs' pairs' visits' order')
+blank_grown ms arcs pairs visits order was n ms' arcs' pairs' visits' order' e m a p v o =
     let k = length was.places in
     let places : map (place_of arcs'.list) ms' ≡ replicate (k + n) unmarked =
     ap (λ us. map (place_of us) ms') a
@@ -153,6 +154,7 @@ blank_grown ms arcs pairs visits was n ms' arcs' pairs' visits' e m a p v =
       arcs = ap length a ∙ ap (λ (w : Contents). w.arcs) e;
       pairs = p ∙ ap (λ (w : Contents). w.pairs) e;
       visits = v ∙ ap (λ (w : Contents). w.visits) e;
+      order = o ∙ ap (λ (w : Contents). w.order) e;
     }
 
 -- a place of the contents, by its list of cells

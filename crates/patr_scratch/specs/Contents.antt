@@ -22,7 +22,7 @@ pub record PlaceMarks : Type 0 where
   pub visit : Visit
   pub added : List Link
 
--- the marks of all places, the stacks with their last item at the top, how many arcs were added, and the room for each
+-- the marks of all places, the stacks with their last item at the top, how many arcs were added, the places that a walk has left, the first one first, and the room for each
 pub record Contents : Type 0 where
   pub places : List PlaceMarks
   pub arcs : ℕ
@@ -31,6 +31,8 @@ pub record Contents : Type 0 where
   pub pair_room : ℕ
   pub visits : List Place
   pub visit_room : ℕ
+  pub order : List Place
+  pub order_room : ℕ
 
 -- a place at which nothing was set
 abbrev pub unmarked : PlaceMarks
@@ -38,7 +40,7 @@ unmarked = record { forward = None; copied = None; visit = visit.Unseen; added =
 
 -- a scratch that holds nothing and has no room
 abbrev pub no_room : Contents
-no_room = record { places = []; arcs = 0; arc_room = 0; pairs = []; pair_room = 0; visits = []; visit_room = 0 }
+no_room = record { places = []; arcs = 0; arc_room = 0; pairs = []; pair_room = 0; visits = []; visit_room = 0; order = []; order_room = 0 }
 
 -- where a place is in the list of places: the two sides take turns
 abbrev pub slot : Side → ℕ → ℕ
@@ -57,7 +59,7 @@ marks v s n = get_or v.places (slot s n) unmarked
 abbrev pub put : Contents → Side → ℕ → PlaceMarks → Contents
 put v s n m = record v { places = set v.places (slot s n) m }
 
--- the same room, with no mark and nothing on the stacks
+-- the same room, with no mark, nothing on the stacks and no place left
 abbrev pub begun : Contents → Contents
 begun v = record {
   places = replicate (length v.places) unmarked;
@@ -67,19 +69,23 @@ begun v = record {
   pair_room = v.pair_room;
   visits = [];
   visit_room = v.visit_room;
+  order = [];
+  order_room = v.order_room;
 }
 
--- there is no mark, no added arc, and nothing on the stacks
+-- there is no mark, no added arc, nothing on the stacks, and no place was left
 pub record IsBlank (v : Contents) : Type 0 where
   pub places : v.places ≡ replicate (length v.places) unmarked
   pub arcs : v.arcs ≡ 0
   pub pairs : v.pairs ≡ []
   pub visits : v.visits ≡ []
+  pub order : v.order ≡ []
 
--- room for so many places on each side, visits and added arcs, and for one more pair than arcs
+-- room for so many places on each side, visits, places that are left and added arcs, and for one more pair than arcs
 pub record HasRoom (v : Contents) (table nodes arcs : ℕ) : Type 0 where
   pub for_places : 2 * table ≤ length v.places
   pub for_visits : nodes ≤ v.visit_room
+  pub for_order : nodes ≤ v.order_room
   pub for_arcs : arcs ≤ v.arc_room
   pub for_pairs : arcs + 1 ≤ v.pair_room
 
@@ -87,6 +93,7 @@ pub record HasRoom (v : Contents) (table nodes arcs : ℕ) : Type 0 where
 pub record KeepsRoom (old new : Contents) : Type 0 where
   pub for_places : length old.places ≤ length new.places
   pub for_visits : old.visit_room ≤ new.visit_room
+  pub for_order : old.order_room ≤ new.order_room
   pub for_arcs : old.arc_room ≤ new.arc_room
   pub for_pairs : old.pair_room ≤ new.pair_room
 

@@ -51,8 +51,8 @@ abbrev pub place_of : List ArcCell → Mark → PlaceMarks
 place_of cells m = record { forward = m.forward; copied = m.copied; visit = m.visit; added = read (length cells) cells (first_of m.added) }
 
 -- what a scratch with these parts holds
-abbrev pub contents_of : List Mark → WithRoom ArcCell → WithRoom (Target × Target) → WithRoom Place → Contents
-contents_of ms arcs pairs visits = record {
+abbrev pub contents_of : List Mark → WithRoom ArcCell → WithRoom (Target × Target) → WithRoom Place → WithRoom Place → Contents
+contents_of ms arcs pairs visits order = record {
   places = map (place_of arcs.list) ms;
   arcs = length arcs.list;
   arc_room = arcs.room;
@@ -60,4 +60,6 @@ contents_of ms arcs pairs visits = record {
   pair_room = pairs.room;
   visits = visits.list;
   visit_room = visits.room;
+  order = order.list;
+  order_room = order.room;
 }

@@ -7,7 +7,7 @@
 //! 2000): workers can read the same nodes at the same time.
 //!
 //! A [`Scratch`] holds these tables: marks for each place of two sides, a list of added arcs for each place, a stack
-//! of pairs and a stack of visits. `reserve` takes all memory. Every other call takes none, and constant time; only
+//! of pairs, a stack of visits, and the places that a walk has left, in order. `reserve` takes all memory. Every other call takes none, and constant time; only
 //! `begin` goes over the table once in each 2^32 - 1 generations.
 #![tactic(auto)]
 

@@ -1,5 +1,5 @@
-//! The marks of a unification: a table, and stacks of arc cells, pairs and visits.
-ghost use Rattle.std.specs.Prelude.{◌≡◌, ◌≢◌, ◌<◌, ◌≤◌, ◌∷◌, ◌++◌, ℕ, [], IfOk, MatchOption, Some, None, length};
+//! The marks of a unification: a table, stacks of arc cells, pairs and visits, and the order in which a walk leaves places.
+ghost use Rattle.std.specs.Prelude.{◌≡◌, ◌≢◌, ◌<◌, ◌≤◌, ◌∷◌, ◌++◌, ℕ, [], IfOk, MatchOption, Some, None, get_or, length};
 ghost use Rattle.patr_scratch.specs.Linked.{first_of, last_or};
 ghost use Rattle.patr_scratch.specs.Contents.{HasPlace, HasCell, HasRoom, IsArcOf, IsBlank, IsCell, KeepsRoom, no_room, begun, first_cell, marks, put, with_arc, with_moved};
 
@@ -12,7 +12,7 @@ use std::marker::Model;
 use std::mem::size_of;
 
 /// The marks of a unification, in room that `reserve` took. A place takes 56 bytes on each side, an added arc 28, a pair
-/// 32 and a visit 12.
+/// 32, a visit 12 and a place that a walk has left 12.
 ///
 /// A call that takes a side and a number speaks of the place with this number on this side. Condition: the number is
 /// below the `table` that room was taken for.
@@ -22,6 +22,7 @@ pub struct Scratch {
     arcs: Stack<ArcCell>,
     pairs: Stack<(Target, Target)>,
     visits: Stack<Place>,
+    order: Stack<Place>,
     goes_first: Side,
 }
 
@@ -32,7 +33,8 @@ impl Model for Scratch {
 
     ghost use Rattle.patr_scratch.specs.Linked.{IsLinked, contents_of};
 
-    ghost view = { λ scratch. contents_of scratch.table scratch.arcs scratch.pairs scratch.visits };
+    ghost view = { λ scratch. contents_of scratch.table scratch.arcs scratch.pairs scratch.visits
+        scratch.order };
 
     ghost invariant = { λ scratch. IsLinked scratch.table scratch.arcs.list };
 }
@@ -92,6 +94,7 @@ impl Scratch {
             arcs: Stack::new(alloc),
             pairs: Stack::new(alloc),
             visits: Stack::new(alloc),
+            order: Stack::new(alloc),
             goes_first: Side::Right,
         }
     }
@@ -109,9 +112,9 @@ impl Scratch {
         self.goes_first = side;
     }
 
-    /// Takes room for places numbered below `table` on each side, for `nodes` visits, `arcs` added arcs and
-    /// `arcs + 1` pairs. It drops all marks, added arcs, pairs and visits. Fails for want of memory alone, and then no
-    /// room is smaller than before. There is never room for 2^32 visits or pairs.
+    /// Takes room for places numbered below `table` on each side, for `nodes` visits, as many places that a walk leaves,
+    /// `arcs` added arcs and `arcs + 1` pairs. It drops all of these and all marks. Fails for want of memory alone, and
+    /// then no room is smaller than before. There is never room for 2^32 visits or pairs.
     pub fn reserve(&mut self, table: u64, nodes: u64, arcs: u64) -> Result<(), Memory>
         ensures blank { IsBlank self.new }
         ensures kept { KeepsRoom self.old self.new }
@@ -124,12 +127,13 @@ impl Scratch {
         let pairs = arcs.checked_add(1).ok_or(AllocError)?;
         self.table.reserve(slots as usize)?;
         self.visits.reserve(visits, NO_PLACE)?;
+        self.order.reserve(visits, NO_PLACE)?;
         self.arcs.reserve(arcs, ArcCell::BLANK)?;
         self.pairs.reserve(pairs, (NO_TARGET, NO_TARGET))
     }
 
-    /// Goes to the next generation: no place has a mark, and all added arcs, pairs and visits are given up. It keeps
-    /// the room, and costs nothing but once in each 2^32 - 1 generations, when every place is cleared.
+    /// Goes to the next generation: no place has a mark, and all added arcs, pairs, visits and places that were left are
+    /// given up. It keeps the room, and costs nothing but once in each 2^32 - 1 generations, when every place is cleared.
     pub fn begin(&mut self)
         ensures { self.new ≡ begun self.old }
     {
@@ -137,6 +141,7 @@ impl Scratch {
         self.arcs.clear();
         self.pairs.clear();
         self.visits.clear();
+        self.order.clear();
     }
 
     /// Where the place is forwarded to. `None` exactly where this generation set no forward there.
@@ -286,6 +291,29 @@ impl Scratch {
         ensures last { MatchOption result ((self.old.visits ≡ []) × (self.new.visits ≡ [])) (λ at. self.old.visits ≡ self.new.visits ++ at ∷ []) }
     {
         self.visits.pop()
+    }
+
+    /// Puts a place behind those that a walk has left. Condition: there is room for one more.
+    pub fn push_order(&mut self, at: Place)
+        requires { length self.old.order < self.old.order_room }
+        ensures { self.new ≡ record self.old { order = self.old.order ++ at ∷ [] } }
+    {
+        self.order.push(at);
+    }
+
+    /// How many places a walk has left.
+    pub fn order_len(&self) -> u32
+        ensures { result ≡ length self.now.order }
+    {
+        self.order.len()
+    }
+
+    /// The place that a walk has left behind so many others.
+    pub fn order_at(&self, index: u32) -> Place
+        requires { index < length self.now.order }
+        ensures { result ≡ get_or self.now.order index result }
+    {
+        self.order.get(index as usize)
     }
 }
 

@@ -6,7 +6,7 @@ use super::*;
 use std::alloc::Global;
 use std::test::Fail;
 
-/// A scratch with room for two places on each side, two visits and two added arcs, that begins at a generation.
+/// A scratch with room for two places on each side, two visits, two places that are left and two added arcs, that begins at a generation.
 fn with_room(alloc: Global, stamp: u32) -> Result<Scratch, Fail>
     requires { 1 ≤ stamp }
     ensures blank { IfOk result (λ scratch. IsBlank scratch) }
@@ -101,6 +101,28 @@ fn what_was_pushed_last_comes_first(rt: HostRuntime) -> Result<(), Fail> {
         Some((Target::Atom(1), Target::Place(place)))
     );
     assert_eq!(rt; scratch.pop_pair(), None);
+    Ok(())
+}
+
+#[test]
+fn places_that_were_left_stay_in_order(rt: HostRuntime) -> Result<(), Fail> {
+    let mut scratch = with_room(rt.alloc(), 1)?;
+    let first = Place {
+        side: Side::Left,
+        block: 0,
+        offset: 1,
+    };
+    let second = Place {
+        side: Side::Right,
+        block: 0,
+        offset: 0,
+    };
+    scratch.push_order(first);
+    scratch.push_order(second);
+    assert_eq!(rt; scratch.order_at(0), first);
+    assert_eq!(rt; scratch.order_at(1), second);
+    scratch.begin();
+    assert_eq!(rt; scratch.order_len(), 0);
     Ok(())
 }
 

@@ -225,4 +225,4 @@ seen_visit visit.Left n = refl
 
 -- a new generation keeps the room
 pub begun_keeps : (w : Contents) → KeepsRoom w (begun w)
-begun_keeps w = record { for_places = (let size = length-replicate (length w.places) unmarked in omega (arith, size)); for_visits = omega arith; for_arcs = omega arith; for_pairs = omega arith }
+begun_keeps w = record { for_places = (let size = length-replicate (length w.places) unmarked in omega (arith, size)); for_visits = omega arith; for_order = omega arith; for_arcs = omega arith; for_pairs = omega arith }

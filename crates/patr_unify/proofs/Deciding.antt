@@ -11,6 +11,7 @@ use Rattle.patr_model.specs.Subsumption.{TakesBoth}
 use Rattle.patr_model.specs.Settled.{IsSideNode}
 use Rattle.patr_marks.specs.Machine.{Pair, State, Has, ends, own, weight, degree, lookup}
 use Rattle.patr_marks.specs.Named.{side_of}
+use Rattle.patr_marks.specs.Quotient.{Below, IsOrder}
 use Rattle.patr_marks.specs.Run.{IsRun, first_pair}
 use Rattle.patr_marks.specs.Settled.{IsSettled, IsTidy, Marks}
 use Rattle.patr_marks.specs.Sides.{IsSide, shift, shifted, sides}
@@ -26,10 +27,10 @@ use Rattle.patr_arena.proofs.Addresses.{value_below}
 use Rattle.patr_scratch.specs.declared.Side.TheVariants as side
 use Rattle.patr_scratch.specs.declared.Target.{Target}
 use Rattle.patr_scratch.specs.Contents.{Contents, HasRoom, PlaceMarks, begun, unmarked}
-use Rattle.patr_unify.specs.Deciding.{HasDecisionRoom, IsEndIn, IsEndOfLeft, IsReachOf, IsSettledFor, marks_by}
+use Rattle.patr_unify.specs.Deciding.{HasDecisionRoom, IsEndIn, IsEndOfLeft, IsOrdered, IsReachOf, IsSettledFor, LeadBehind, marks_by}
 use Rattle.patr_unify.specs.Reading.{AreHeld, LinksHeld, OptionIsHeld, added_of, arcs_at as links_at, forward_of, marks_in, option_at, pairs_at, slot_of, state_of, target_on, value_at}
 use Rattle.patr_unify.specs.Stepping.{Covers, IsRunning}
-use Rattle.patr_unify.specs.Walking.{IsLedBack, IsStill, IsWalkable, IsWalkedOff}
+use Rattle.patr_unify.specs.Walking.{IsLedBack, IsStill, IsWalkable, IsWalkedOff, stack_of}
 use Rattle.patr_unify.proofs.Keys.{target_held, target_value}
 use Rattle.patr_unify.proofs.Edges.{reach_edges}
 use Rattle.patr_unify.proofs.Walked.{still_added, still_both, still_end, still_ends, still_forward, still_held}
@@ -178,12 +179,14 @@ module _ (v : Shown) (s : IsShown v) (w : Contents) (l : ℕ) (hl : l < length v
         rooms = record {
           for_places = omega (arith, places, room.room.for_places);
           for_visits = omega (arith, size, mapped, room.left.nodes_are, room.right.nodes_are, room.room.for_visits);
+          for_order = omega (arith, size, mapped, room.left.nodes_are, room.right.nodes_are, room.room.for_order);
           for_arcs = omega (arith, arcs, room.left.arcs_are, room.right.arcs_are, room.room.for_arcs);
           for_pairs = omega (arith, arcs, room.left.arcs_are, room.right.arcs_are, room.room.for_pairs);
         };
         unseen = λ j. ap (λ (m : PlaceMarks). m.visit) (begun_marks w j);
         uncopied = λ j. ap (λ (m : PlaceMarks). m.copied) (begun_marks w j);
         empty = refl;
+        no_order = refl;
       }
 
 -- where the walk begins
@@ -196,8 +199,10 @@ walkable v s w l r target ks c i none = record {
   unseen = λ k. i.unseen (slot_of (length v.structure) k);
   empty = i.empty;
   no_pairs = none;
+  no_order = i.no_order;
   ks = ks;
   room = i.rooms.for_visits;
+  order_room = i.rooms.for_order;
   pair_room = omega (arith, c.few, i.rooms.for_pairs);
   reached = λ root n k e h. c.all k (reached_side v.structure l r (state_of v w i.log) i.run.within root (root_side v.structure l r (state_of v w i.log) i.run.within root e) n k h);
 }
@@ -226,11 +231,20 @@ module _ (v : Shown) (w t : Contents) (l : ℕ) (i : IsWalkable v w l) (off : Is
       let r = end_from n h.0 h.3 in
       (r.0, r.1, (h.0, r.2, (h.1, h.2, subst (λ es. Has es h.1 h.2) (still_both v w t off.still h.0) h.4, sym (still_end v w t l i off.still h.2) ∙ h.5)))
 
-  pub left_ends : (k : ℕ) → IsEndOfLeft v t l k → IsIn off.order k
+  pub left_ends : (k : ℕ) → IsEndOfLeft v t l k → IsIn (stack_of v t.order) k
   left_ends k h = let r = end_from h.0 k h.1 in off.done r.0 h.0 k r.1 r.2
 
-  pub ends_left : (k : ℕ) → IsIn off.order k → IsEndOfLeft v t l k
+  pub ends_left : (k : ℕ) → IsIn (stack_of v t.order) k → IsEndOfLeft v t l k
   ends_left k m = let r = off.reached k m in (r.1, end_in r.1 k r.0 r.2 r.3)
+
+  lead_behind : (ks : List ℕ) → IsOrder (sides v.structure) (state_of v w i.log) ks → LeadBehind v t ks
+  lead_behind [] o = tt
+  lead_behind (k ∷ ks) o =
+      (o.1, (λ a x h. subst (Below ks) (sym (still_end v w t l i off.still x)) (o.2 a x (subst (λ es. Has es a x) (still_both v w t off.still k) h))), lead_behind ks o.3)
+
+  -- the places that were left, in order
+  pub ordered : IsOrdered v t l
+  ordered = record { held = off.left_held; behind = lead_behind (stack_of v t.order) off.ordered; ends = ends_left; all = left_ends }
 
 -- the room is still there
 pub room_stays : (v : Shown) (s : IsShown v) (w u t : Contents) (l : ℕ) (r : Value) → l < length v.structure → (room : HasDecisionRoom v w l r)
@@ -252,6 +266,7 @@ room_stays v s w u t l r hl room has still =
       room = record {
         for_places = omega (arith, has.for_places, still.places);
         for_visits = omega (arith, has.for_visits, still.visit_room, size, mapped, room.left.nodes_are, room.right.nodes_are);
+        for_order = omega (arith, has.for_order, still.order_room, size, mapped, room.left.nodes_are, room.right.nodes_are);
         for_arcs = omega (arith, has.for_arcs, still.arc_room, arcs, room.left.arcs_are, room.right.arcs_are);
         for_pairs = omega (arith, has.for_pairs, still.pair_room, arcs, room.left.arcs_are, room.right.arcs_are);
       };
@@ -288,7 +303,7 @@ module _ (v : Shown) (s : IsShown v) (w t : Contents) (l : ℕ) (r target : Valu
   abbrev state : State
   state = state_of v w i.log
 
-  inside : (k : ℕ) → IsIn off.order k → IsSide v.structure l r k
+  inside : (k : ℕ) → IsIn (stack_of v t.order) k → IsSide v.structure l r k
   inside k m = let q = off.reached k m in reached_side v.structure l r state i.run.within q.0 (root_side v.structure l r state i.run.within q.0 q.2) q.1 k q.3
 
   same : (let m : Marks = record { forward = lookup i.log; added = added_of v w } in m) ≡ marks_by v t
@@ -298,8 +313,8 @@ module _ (v : Shown) (s : IsShown v) (w t : Contents) (l : ℕ) (r target : Valu
   marks_settled =
       let pending = ap (pairs_at v) none in
       subst (λ m. (n : IsSettled v.structure l p r m) × IsTidy v.structure l p r m n) same (
-        settles v.structure l p r target state off.order s.structure hl ht there i.run pending off.ordered off.below inside,
-        tidies v.structure l p r target state off.order s.structure hl ht there i.run pending off.ordered off.below inside,
+        settles v.structure l p r target state (stack_of v t.order) s.structure hl ht there i.run pending off.ordered off.below inside,
+        tidies v.structure l p r target state (stack_of v t.order) s.structure hl ht there i.run pending off.ordered off.below inside,
       )
 
   pub settled_for : IsValue v.structure r → HasDecisionRoom v t l r → IsSettledFor v t l p r
@@ -317,4 +332,5 @@ module _ (v : Shown) (s : IsShown v) (w t : Contents) (l : ℕ) (r target : Valu
     left = λ k h. off.left k (left_ends v w t l (walkable v s w l r target ks c i none) off k h);
     reached = λ k h. ends_left v w t l (walkable v s w l r target ks c i none) off k (off.in_order k h);
     unseen = λ k h. off.unseen k (λ m. h (ends_left v w t l (walkable v s w l r target ks c i none) off k m));
+    ordered = ordered v w t l (walkable v s w l r target ks c i none) off;
   }

@@ -34,6 +34,8 @@ kept_same w = record {
   pair_room = refl;
   visits = refl;
   visit_room = refl;
+  order = refl;
+  order_room = refl;
   copied = λ j. refl;
   visit = λ j. refl;
 }
@@ -46,6 +48,8 @@ put_kept w arcs s n m h c x = record {
   pair_room = refl;
   visits = refl;
   visit_room = refl;
+  order = refl;
+  order_room = refl;
   copied = field_put (λ (u : PlaceMarks). u.copied) w s n m h c;
   visit = field_put (λ (u : PlaceMarks). u.visit) w s n m h x;
 }
@@ -57,6 +61,8 @@ kept_then w t u h k = record {
   pair_room = k.pair_room ∙ h.pair_room;
   visits = k.visits ∙ h.visits;
   visit_room = k.visit_room ∙ h.visit_room;
+  order = k.order ∙ h.order;
+  order_room = k.order_room ∙ h.order_room;
   copied = λ j. k.copied j ∙ h.copied j;
   visit = λ j. k.visit j ∙ h.visit j;
 }
@@ -90,7 +96,7 @@ given_later v w later B a x h p e = record {
 pub given_pair : (v : Shown) (w t : Contents) (later : Bool) (B a : ℕ) (x other : Target) → AreHeld v w → PairsHeld v w.pairs → TargetIsHeld v x → TargetIsHeld v other → later ≡ false
     → Some (value_at v other) ≡ along (both v w B) a → t ≡ record w { pairs = w.pairs ++ (x, other) ∷ [] } → IsGiven v w t later B a (value_at v x)
 given_pair v w t later B a x other h p hx ho e o is = subst (λ u. IsGiven v w u later B a (value_at v x)) (sym is) (record {
-  kept = record { places = refl; arc_room = refl; pair_room = refl; visits = refl; visit_room = refl; copied = λ j. refl; visit = λ j. refl };
+  kept = record { places = refl; arc_room = refl; pair_room = refl; visits = refl; visit_room = refl; order = refl; order_room = refl; copied = λ j. refl; visit = λ j. refl };
   forward = λ j. refl;
   pairs =
       pairs_append v w.pairs ((x, other) ∷ [])

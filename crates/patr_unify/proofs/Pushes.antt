@@ -197,6 +197,8 @@ merged v w t u x y from to source destination s hA hB ne eA eB h g mx my =
         pair_room = h.kept.pair_room;
         visits = h.kept.visits;
         visit_room = h.kept.visit_room;
+        order = h.kept.order;
+        order_room = h.kept.order_room;
         copied = λ j. merged_all (λ (j : ℕ) (p : PlaceMarks). p.copied ≡ (marks_in t j).copied) f z J K (target.Place to) m refl refl (λ j. refl) j ∙ h.kept.copied j;
         visit = λ j. merged_all (λ (j : ℕ) (p : PlaceMarks). p.visit ≡ (marks_in t j).visit) f z J K (target.Place to) m refl refl (λ j. refl) j ∙ h.kept.visit j;
       };

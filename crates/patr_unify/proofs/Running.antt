@@ -116,12 +116,14 @@ running_on v w t a b l r target ks i c k o =
       rooms = record {
         for_places = omega (arith, i.rooms.for_places, k.kept.places);
         for_visits = omega (arith, i.rooms.for_visits, k.kept.visit_room);
+        for_order = omega (arith, i.rooms.for_order, k.kept.order_room);
         for_arcs = omega (arith, i.rooms.for_arcs, k.kept.arc_room);
         for_pairs = omega (arith, i.rooms.for_pairs, k.kept.pair_room);
       };
       unseen = λ j. k.kept.visit j ∙ i.unseen j;
       uncopied = λ j. k.kept.copied j ∙ i.uncopied j;
       empty = k.kept.visits ∙ i.empty;
+      no_order = k.kept.order ∙ i.no_order;
     }
   where
     one : (n : ℕ) → n + 1 ≡ suc n

@@ -33,6 +33,7 @@ visited v w t p number state s a h e g =
         arc_room = refl;
         pair_room = refl;
         visit_room = refl;
+        order_room = refl;
         forward = field_put (λ (u : PlaceMarks). u.forward) w p.side number m has refl;
         copied = field_put (λ (u : PlaceMarks). u.copied) w p.side number m has refl;
         added = field_put (λ (u : PlaceMarks). u.added) w p.side number m has refl;
@@ -41,9 +42,9 @@ visited v w t p number state s a h e g =
       others = λ j ne. ap (λ (u : PlaceMarks). u.visit) (get_or-set_other w.places (slot p.side number) (slot_of n j) m unmarked (λ q. ne (slot_one n j (key v p) (q ∙ sym at))));
     })
 
--- the stacks may change after it
-pub visited_then : (v : Shown) (w t u : Contents) (k : ℕ) (state : Visit) (ps : List Place) (qs : List (Target × Target)) → IsVisited v w t k state → u ≡ record t { visits = ps; pairs = qs } → IsVisited v w u k state
-visited_then v w t u k state ps qs h e = subst (λ z. IsVisited v w z k state) (sym e) h
+-- the stacks and the order may change after it
+pub visited_then : (v : Shown) (w t u : Contents) (k : ℕ) (state : Visit) (ps order : List Place) (qs : List (Target × Target)) → IsVisited v w t k state → u ≡ record t { visits = ps; pairs = qs; order = order } → IsVisited v w u k state
+visited_then v w t u k state ps order qs h e = subst (λ z. IsVisited v w z k state) (sym e) h
 
 -- one copy is marked
 pub copy_marked : (v : Shown) (w t : Contents) (p : Place) (number : ℕ) (d : Copied) → IsShown v → AreHeld v w → IsHeld v p.block p.offset → number ≡ number_of v p.block p.offset
@@ -57,13 +58,15 @@ copy_marked v w t p number d s a h e g =
       still = record {
         places = length-set w.places (slot p.side number) m;
         pair_room = refl;
-        visit_room = refl;
         forward = field_put (λ (u : PlaceMarks). u.forward) w p.side number m has refl;
         added = field_put (λ (u : PlaceMarks). u.added) w p.side number m has refl;
       };
       arc_room = refl;
       pairs = refl;
       visits = refl;
+      visit_room = refl;
+      order = refl;
+      order_room = refl;
       visit = field_put (λ (u : PlaceMarks). u.visit) w p.side number m has refl;
       here = ap (λ j. (marks_in (put w p.side number m) j).copied) at ∙ ap (λ (u : PlaceMarks). u.copied) (get_or-set_same w.places (slot p.side number) m unmarked has);
       others = λ j ne. ap (λ (u : PlaceMarks). u.copied) (get_or-set_other w.places (slot p.side number) (slot_of n j) m unmarked (λ q. ne (slot_one n j (key v p) (q ∙ sym at))));

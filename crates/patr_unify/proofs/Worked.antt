@@ -1,20 +1,17 @@
 -- What stays while a copy is made, and what its marks say.
-use Rattle.std.proofs.Common.{◌≡◌, ℕ, suc, ◌+◌, ◌<◌, ◌⊎◌, inl, inr, Option, Some, None, List, [], ◌∷◌, ◌++◌, length, refl, sym, ap, ◌∙◌, subst, arith}
+use Rattle.std.proofs.Common.{◌≡◌, ℕ, suc, ◌+◌, ◌<◌, inl, inr, Option, Some, None, List, [], ◌∷◌, ◌++◌, length, refl, sym, ap, ◌∙◌, subst, arith}
 use Rattle.std.specs.List.{sum}
 use Rattle.std.proofs.lemmas.List.{get_or_append_left, take_all}
 use Rattle.patr_lists.proofs.Places.{below_or_behind}
-use Rattle.patr_lists.specs.Members.{NoRepeats, IsIn}
-use Rattle.patr_lists.specs.Numbers.{total}
+use Rattle.patr_lists.specs.Members.{IsIn}
 use Rattle.patr_model.specs.Structure.{Value, Atom, Node, Arc, Arcs, Structure, IsBelow, IsValue, arcs_of}
-use Rattle.patr_marks.specs.Machine.{Has, own}
+use Rattle.patr_marks.specs.Machine.{own}
 use Rattle.patr_marks.specs.Quotient.{Below}
-use Rattle.patr_marks.specs.Settled.{IsCopy, IsSparing, base, through, IsFinal, follow}
-use Rattle.patr_marks.specs.Sides.{IsSide, shifted, sides}
+use Rattle.patr_marks.specs.Settled.{base, through, IsFinal, follow}
+use Rattle.patr_marks.specs.Sides.{shifted, sides}
 use Rattle.patr_marks.proofs.Copy.{base_left, base_shift}
 use Rattle.patr_marks.proofs.Sides.{own_left, own_right}
-use Rattle.patr_arena.specs.Blocks.{OldIsHeld}
 use Rattle.patr_arena.specs.Shown.{Shown, IsShown, IsHeld, number_of}
-use Rattle.patr_arena.specs.declared.value.Feature.{Feature}
 use Rattle.patr_arena.specs.declared.value.Ref.{Ref}
 use Rattle.patr_arena.specs.declared.value.Ref.TheVariants as ref
 use Rattle.patr_arena.proofs.Showing.{held_below}
@@ -22,15 +19,12 @@ use Rattle.patr_scratch.specs.declared.Copied.{Copied}
 use Rattle.patr_scratch.specs.declared.Place.{Place}
 use Rattle.patr_scratch.specs.declared.Side.{Side}
 use Rattle.patr_scratch.specs.declared.Side.TheVariants as side
-use Rattle.patr_scratch.specs.declared.Visit.{Visit}
-use Rattle.patr_scratch.specs.declared.Visit.TheVariants as visit
 use Rattle.patr_scratch.specs.Contents.{Contents}
-use Rattle.patr_unify.specs.Copying.{IsWorked, CopiesFit, Fits, IsCopiedTo, IsCopyMarked, IsEndRef, IsOld, MarkFits, copied_of, copying_by, made_of, new_nodes, ref_to, stays_free}
-use Rattle.patr_unify.specs.Deciding.{IsEndOfLeft}
+use Rattle.patr_unify.specs.Copying.{IsWorked, Fits, IsCopiedTo, IsEndRef, IsOld, MarkFits, copied_of, made_of, ref_to}
 use Rattle.patr_unify.specs.Merging.{both}
 use Rattle.patr_unify.specs.Reading.{AreHeld, LinksHeld, OptionIsHeld, added_of, behind, forward_of, key, marks_in, option_at, slot_of, value_on}
 use Rattle.patr_unify.specs.Reading as reading
-use Rattle.patr_unify.specs.Walking.{AllEnd, IsStill, bare, end_value, visit_of}
+use Rattle.patr_unify.specs.Walking.{AllEnd, IsStill, end_value}
 use Rattle.patr_marks.proofs.Follow.{final_ext, follow_ext}
 
 -- the places of new nodes
@@ -68,16 +62,12 @@ pub worked_then : (w t u : Contents) → IsWorked w t → IsWorked t u → IsWor
 worked_then w t u h k = record {
   places = k.places ∙ h.places;
   pair_room = k.pair_room ∙ h.pair_room;
-  visit_room = k.visit_room ∙ h.visit_room;
   forward = λ j. k.forward j ∙ h.forward j;
   added = λ j. k.added j ∙ h.added j;
 }
 
 pub still_worked : (w t : Contents) → IsStill w t → IsWorked w t
-still_worked w t h = record { places = h.places; pair_room = h.pair_room; visit_room = h.visit_room; forward = h.forward; added = h.added }
-
-pub marked_keeps : (v : Shown) (u m : Contents) (k : ℕ) (d : Copied) → IsCopyMarked v u m k d → IsWorked u m × ((j : ℕ) → visit_of v m j ≡ visit_of v u j) × (m.visits ≡ u.visits) × (m.pairs ≡ u.pairs)
-marked_keeps v u m k d h = (h.still, λ j. h.visit (slot_of (length v.structure) j), h.visits, h.pairs)
+still_worked w t h = record { places = h.places; pair_room = h.pair_room; forward = h.forward; added = h.added }
 
 module _ (v : Shown) (w t : Contents) (h : IsWorked w t) where
   pub worked_forward : (k : ℕ) → forward_of v t k ≡ forward_of v w k
@@ -101,42 +91,6 @@ module _ (v : Shown) (w t : Contents) (h : IsWorked w t) where
 
   pub worked_ends : AllEnd v w → AllEnd v t
   worked_ends all x = subst (IsFinal (forward_of v t)) (sym (worked_end x)) (final_ext (forward_of v t) (forward_of v w) (end_value v w x) worked_forward (all x))
-
--- each of the list has a lower rank than those behind it
-abbrev pub IsFalling : (ℕ → ℕ) → List ℕ → Type 0
-IsFalling rank [] = Unit {0}
-IsFalling rank (k ∷ ks) = ((j : ℕ) → IsIn ks j → rank k < rank j) × IsFalling rank ks
-
-pub falling_once : (rank : ℕ → ℕ) (ks : List ℕ) → IsFalling rank ks → NoRepeats ks
-falling_once rank [] h = tt
-falling_once rank (k ∷ ks) h = ((λ n. let low = h.0 k n in absurd (omega (arith, low))), falling_once rank ks h.1)
-
--- what was copied, and what is on the stack
-pub record CopiedMarks (v : Shown) (w : Contents) (t : Contents) (l : ℕ) (r : Value) (block : List (List Feature)) (nodes : ℕ) (arcs : ℕ) (stack : List ℕ) : Type 0 where
-  pub still : IsWorked w t
-  pub rank : ℕ → ℕ
-  pub falls : (j k a : ℕ) (x : Value) → IsEndOfLeft v w l j → Has (both v w j) a x → end_value v w x ≡ Node k → rank k < rank j
-  pub ks : List ℕ
-  pub value : ℕ → Value
-  pub copy : IsCopy (IsSide v.structure l r) (copying_by v w) ks (record { value = value; new = new_nodes v block })
-  pub sparing : IsSparing (copying_by v w) ks (record { value = value; new = new_nodes v block })
-  pub once : NoRepeats ks
-  pub ends : (k : ℕ) → IsIn stack k ⊎ IsIn ks k → IsEndOfLeft v w l k
-  pub apart : (k : ℕ) → IsIn stack k → IsIn ks k → ⊥
-  pub falling : IsFalling rank stack
-  pub root : (k : ℕ) → end_value v w (Node l) ≡ Node k → IsIn stack k ⊎ IsIn ks k
-  pub entered : (k : ℕ) → IsIn stack k ⊎ IsIn ks k → visit_of v t k ≡ visit.Entered
-  pub back : (k : ℕ) → visit_of v t k ≡ visit.Entered → IsIn stack k ⊎ IsIn ks k
-  pub others : (k : ℕ) → (visit_of v t k ≡ visit.Entered) ⊎ (visit_of v t k ≡ visit_of v w k)
-  pub marked : (k : ℕ) → IsIn ks k → IsCopiedTo v (length block) (copied_of v t k) (value k)
-  pub fits : CopiesFit v (length block) t
-  pub old : OldIsHeld v block
-  pub nodes_are : nodes ≡ length ks
-  pub arcs_are : arcs ≡ total (λ k. length (arcs_of (v.structure ++ new_nodes v block) (value k))) ks
-
--- the copy with this stack
-abbrev pub HasCopied : Shown → Contents → Contents → ℕ → Value → List (List Feature) → ℕ → ℕ → List ℕ → Type 0
-HasCopied v w t l r block nodes arcs stack = CopiedMarks v w (bare t) l r block nodes arcs stack
 
 -- an end's copy, by its mark
 pub ref_value : (v : Shown) (t : Contents) (size : ℕ) (value : ℕ → Value) (ks : List ℕ) (x : Value) (r : Ref) → ((k : ℕ) → IsIn ks k → IsCopiedTo v size (copied_of v t k) (value k)) → Below ks x → IsEndRef v t x r
@@ -171,11 +125,3 @@ base_key v p s h = go p.side
     go : (d : Side) → base (length v.structure) (Node (behind d (length v.structure) (number_of v p.block p.offset))) ≡ Node (number_of v p.block p.offset)
     go side.Left = base_left (length v.structure) (Node (number_of v p.block p.offset)) (held_below v s p.block p.offset h)
     go side.Right = base_shift (length v.structure) (Node (number_of v p.block p.offset))
-
-pub left_or : (o : Option Value) (x y : Visit) → x ≡ visit.Entered → y ≡ visit.Left → stays_free o x ≡ stays_free o y
-left_or None visit.Unseen y e f = cc
-left_or None visit.Entered visit.Unseen e f = cc
-left_or None visit.Entered visit.Entered e f = refl
-left_or None visit.Entered visit.Left e f = refl
-left_or None visit.Left y e f = cc
-left_or (Some z) x y e f = refl

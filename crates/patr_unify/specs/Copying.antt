@@ -1,16 +1,19 @@
 -- What a copy is made from, and what it is.
 --     copying_by v w     what a copy reads
 --     made_of v r        what an arc of the new block leads to
+--     HasCopied          what was copied so far
 --     IsMade             the copy is a unifier that keeps what is untouched
 use Rattle.std.specs.Prelude.{◌≡◌, ◌≢◌, ℕ, ◌+◌, ◌-◌, ◌<◌, ◌≤◌, ◌⊎◌, Bool, true, false, cond, nat_lt, Option, Some, None, List, [], ◌∷◌, ◌++◌, length, map, get_or}
 use Rattle.std.specs.List.{insert}
 use Rattle.std.specs.List.Sorted.{IsStrictlyIncreasing}
-use Rattle.patr_model.specs.Structure.{Value, Atom, Node, Arcs, Structure, IsReached}
+use Rattle.patr_lists.specs.Members.{IsIn}
+use Rattle.patr_lists.specs.Numbers.{total}
+use Rattle.patr_model.specs.Structure.{Value, Atom, Node, Arcs, Structure, IsReached, arcs_of}
 use Rattle.patr_model.specs.Settled.{Images, Keeps}
 use Rattle.patr_model.specs.Subsumption.{IsUnifier}
 use Rattle.patr_marks.specs.Machine.{Has, own}
-use Rattle.patr_marks.specs.Settled.{Copying, base, covered}
-use Rattle.patr_marks.specs.Sides.{sides}
+use Rattle.patr_marks.specs.Settled.{Copying, IsCopy, IsSparing, base, covered}
+use Rattle.patr_marks.specs.Sides.{IsSide, sides}
 use Rattle.patr_arena.specs.declared.value.Feature.{Feature}
 use Rattle.patr_arena.specs.declared.value.Ref.{Ref}
 use Rattle.patr_arena.specs.declared.value.Ref.TheVariants as ref
@@ -27,8 +30,7 @@ use Rattle.patr_unify.specs.Reading.{added_of, forward_of, key, marks_in, marks_
 use Rattle.patr_unify.specs.Merging.{both}
 use Rattle.patr_unify.specs.declared.draft.Draft.{Draft}
 use Rattle.patr_scratch.specs.declared.Place.{Place}
-use Rattle.patr_unify.specs.declared.cursor.Cursor.{Cursor}
-use Rattle.patr_unify.specs.Walking.{IsFoundAt, IsOther, IsPaused, IsPutOn, IsTakenFrom, IsVisited, bare, end_value, first, visit_of}
+use Rattle.patr_unify.specs.Walking.{bare, end_value, visit_of}
 
 -- the right side's node at a place may stay there: the left side's node there has neither a forward nor a visit
 abbrev pub stays_free : Option Value → Visit → Bool
@@ -128,7 +130,6 @@ pub record IsNodeOf (v : Shown) (w : Contents) (size : ℕ) (es : Arcs) (rest : 
 pub record SameArcs (w : Contents) (t : Contents) : Type 0 where
   pub places : length t.places ≡ length w.places
   pub pair_room : t.pair_room ≡ w.pair_room
-  pub visit_room : t.visit_room ≡ w.visit_room
   pub forward : (j : ℕ) → (marks_in t j).forward ≡ (marks_in w j).forward
   pub added : (j : ℕ) → (marks_in t j).added ≡ (marks_in w j).added
 
@@ -142,6 +143,9 @@ pub record IsCopyMarked (v : Shown) (w : Contents) (t : Contents) (k : ℕ) (d :
   pub arc_room : t.arc_room ≡ w.arc_room
   pub pairs : t.pairs ≡ w.pairs
   pub visits : t.visits ≡ w.visits
+  pub visit_room : t.visit_room ≡ w.visit_room
+  pub order : t.order ≡ w.order
+  pub order_room : t.order_room ≡ w.order_room
   pub visit : (j : ℕ) → (marks_in t j).visit ≡ (marks_in w j).visit
   pub here : copied_of v t k ≡ Some d
   pub others : (j : ℕ) → j ≢ k → copied_of v t j ≡ copied_of v w j
@@ -169,26 +173,23 @@ pub record HasNewNode (v : Shown) (w : Contents) (t : Contents) (top : Place) (o
 abbrev pub HasFinished : Shown → Contents → Contents → Place → Draft → Draft → Type 0
 HasFinished v w t top old new = HasStayed v w t top old new ⊎ HasNewNode v w t top old new
 
--- an end of the place's arcs that was not entered was entered
-abbrev pub HasComeTo : Shown → Contents → Contents → Place → Type 0
-HasComeTo v w t top = (a : ℕ) × (x : Value) × (p : Place) × Has (both v w (key v top)) a x × IsOther v w visit.Entered x p × IsVisited v w t (key v p) visit.Entered × (t.visits ≡ w.visits ++ top ∷ p ∷ [])
-    × (from : Cursor) × IsPaused v w visit.Entered (key v top) from × IsPutOn w.pairs t.pairs from
-
--- where an arc of the place leads to an end that was not entered, the stacks have room for both
-abbrev pub HasRoomToEnter : Shown → Contents → ℕ → Type 0
-HasRoomToEnter v w k = (a : ℕ) (x : Value) (p : Place) → Has (both v w k) a x → IsOther v w visit.Entered x p → (length w.visits + 2 ≤ w.visit_room) × (length w.pairs < w.pair_room)
-
--- an end all of whose arcs lead to copied ends was copied, and the place below is taken up
-abbrev pub HasGoneBack : Shown → Contents → Contents → Place → Draft → Draft → Cursor → Type 0
-HasGoneBack v w t top old new c = (u : Contents) × IsFoundAt v w visit.Entered (both v w (key v top)) None × HasFinished v w u top old new × (t ≡ record u { pairs = t.pairs }) × IsTakenFrom u.pairs t.pairs c
-
--- the copy has gone on from the top of the stack
-abbrev pub HasGoneOn : Shown → Contents → Contents → Place → Draft → Draft → Cursor → Type 0
-HasGoneOn v w t top old new c = (HasComeTo v w t top × (new ≡ old) × (c ≡ first)) ⊎ HasGoneBack v w t top old new c
-
 -- the new nodes
 abbrev pub new_nodes : Shown → List (List Feature) → Structure
 new_nodes v block = map (arcs_from v (length v.sizes)) block
+
+-- these ends are copied: what each became, as its mark says, and how many nodes and arcs the copies have
+pub record HasCopied (v : Shown) (w : Contents) (t : Contents) (l : ℕ) (r : Value) (block : List (List Feature)) (nodes : ℕ) (arcs : ℕ) (ks : List ℕ) : Type 0 where
+  pub still : IsWorked w t
+  pub order : t.order ≡ w.order
+  pub visit : (k : ℕ) → visit_of v t k ≡ visit_of v w k
+  pub value : ℕ → Value
+  pub copy : IsCopy (IsSide v.structure l r) (copying_by v w) ks (record { value = value; new = new_nodes v block })
+  pub sparing : IsSparing (copying_by v w) ks (record { value = value; new = new_nodes v block })
+  pub marked : (k : ℕ) → IsIn ks k → IsCopiedTo v (length block) (copied_of v t k) (value k)
+  pub fits : CopiesFit v (length block) t
+  pub old : OldIsHeld v block
+  pub nodes_are : nodes ≡ length ks
+  pub arcs_are : arcs ≡ total (λ k. length (arcs_of (v.structure ++ new_nodes v block) (value k))) ks
 
 -- the block and the root are a unifier that keeps the untouched nodes; each new node is reached from the root, and the counts are those of what is reached
 pub record IsMade (v : Shown) (l : ℕ) (p : List ℕ) (r : Value) (block : List (List Feature)) (root : Ref) (nodes : ℕ) (arcs : ℕ) : Type 0 where

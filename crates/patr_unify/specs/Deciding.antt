@@ -3,19 +3,21 @@
 --     HasDecisionRoom   the room that a decision needs
 --     marks_by          the marks of a scratch
 --     IsEndIn           an end that arcs of ends lead to
+--     IsOrdered         the order in which the walk has left them
 --     IsSettledFor      the scratch after a decision that found no fault
-use Rattle.std.specs.Prelude.{◌≡◌, ℕ, zero, suc, ◌+◌, Some, None, List, [], length}
+use Rattle.std.specs.Prelude.{◌≡◌, ℕ, zero, suc, ◌+◌, Some, None, List, [], ◌∷◌, length}
 use Rattle.patr_lists.specs.Members.{NoRepeats, IsIn}
 use Rattle.patr_lists.specs.Numbers.{total}
 use Rattle.patr_model.specs.Structure.{Value, Node, Structure, IsReached, IsValue, at}
 use Rattle.patr_marks.specs.Machine.{Has, own}
+use Rattle.patr_marks.specs.Quotient.{Below}
 use Rattle.patr_marks.specs.Settled.{IsSettled, IsTidy, Marks}
 use Rattle.patr_arena.specs.Shown.{Shown}
 use Rattle.patr_scratch.specs.declared.Visit.TheVariants as visit
 use Rattle.patr_scratch.specs.Contents.{Contents, HasRoom}
 use Rattle.patr_unify.specs.Merging.{both}
 use Rattle.patr_unify.specs.Reading.{AreHeld, added_of, forward_of, marks_in}
-use Rattle.patr_unify.specs.Walking.{AllEnd, end_value, visit_of}
+use Rattle.patr_unify.specs.Walking.{AllEnd, VisitsHeld, end_value, stack_of, visit_of}
 
 -- a list of the nodes that are reached from a value, each once
 pub record IsReachOf (S : Structure) (x : Value) (ks : List ℕ) : Type 0 where
@@ -53,6 +55,18 @@ IsEndIn v w l (suc n) k = (j a : ℕ) × (x : Value) × IsEndIn v w l n j × Has
 abbrev pub IsEndOfLeft : Shown → Contents → ℕ → ℕ → Type 0
 IsEndOfLeft v w l k = (n : ℕ) × IsEndIn v w l n k
 
+-- each end's arcs lead to ends that stand behind it in the list
+abbrev pub LeadBehind : Shown → Contents → List ℕ → Type 0
+LeadBehind v w [] = Unit {0}
+LeadBehind v w (k ∷ ks) = (IsIn ks k → ⊥) × ((a : ℕ) (x : Value) → Has (both v w k) a x → Below ks (end_value v w x)) × LeadBehind v w ks
+
+-- the places that the walk has left are the ends that the left side reaches, and arcs lead to those that were left before
+pub record IsOrdered (v : Shown) (w : Contents) (l : ℕ) : Type 0 where
+  pub held : VisitsHeld v w.order
+  pub behind : LeadBehind v w (stack_of v w.order)
+  pub ends : (k : ℕ) → IsIn (stack_of v w.order) k → IsEndOfLeft v w l k
+  pub all : (k : ℕ) → IsEndOfLeft v w l k → IsIn (stack_of v w.order) k
+
 -- the marks stand for a unifier, the visits tell the ends that the left side reaches, and the room for a decision is there
 pub record IsSettledFor (v : Shown) (w : Contents) (l : ℕ) (p : List ℕ) (r : Value) : Type 0 where
   pub held : AreHeld v w
@@ -71,3 +85,4 @@ pub record IsSettledFor (v : Shown) (w : Contents) (l : ℕ) (p : List ℕ) (r :
   pub left : (k : ℕ) → IsEndOfLeft v w l k → visit_of v w k ≡ visit.Left
   pub reached : (k : ℕ) → visit_of v w k ≡ visit.Left → IsEndOfLeft v w l k
   pub unseen : (k : ℕ) → (IsEndOfLeft v w l k → ⊥) → visit_of v w k ≡ visit.Unseen
+  pub ordered : IsOrdered v w l

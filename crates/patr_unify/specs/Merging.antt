@@ -15,6 +15,8 @@ pub record IsKept (w : Contents) (t : Contents) : Type 0 where
   pub pair_room : t.pair_room ≡ w.pair_room
   pub visits : t.visits ≡ w.visits
   pub visit_room : t.visit_room ≡ w.visit_room
+  pub order : t.order ≡ w.order
+  pub order_room : t.order_room ≡ w.order_room
   pub copied : (j : ℕ) → (marks_in t j).copied ≡ (marks_in w j).copied
   pub visit : (j : ℕ) → (marks_in t j).visit ≡ (marks_in w j).visit
 

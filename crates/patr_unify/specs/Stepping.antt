@@ -82,6 +82,7 @@ pub record IsRunning (v : Shown) (w : Contents) (l : ℕ) (r : Value) (target : 
   pub unseen : (j : ℕ) → (marks_in w j).visit ≡ visit.Unseen
   pub uncopied : (j : ℕ) → (marks_in w j).copied ≡ None
   pub empty : w.visits ≡ []
+  pub no_order : w.order ≡ []
 
 -- the attributes of a place that was not forwarded, as the scratch tells them
 abbrev pub weight_of : Shown → Contents → ℕ → ℕ

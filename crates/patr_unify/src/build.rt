@@ -1,22 +1,19 @@
-//! The copy of a unifier: ends are walked over once more, each copied behind those that its arcs lead to.
+//! The copy of a unifier: the ends that `decide` has put in order, each behind those that its arcs lead to.
 ghost use Rattle.std.specs.Prelude.{◌≡◌, ◌<◌, ◌∷◌, ◌++◌, [], ℕ, List, IfOk, length};
-ghost use Rattle.patr_model.specs.Structure.{Node};
 ghost use Rattle.patr_arena.specs.Shown.{IsHeld, number_of};
-ghost use Rattle.patr_unify.specs.Copying.{CopiesFit, HasFinished, HasGoneOn, HasRoomToEnter, IsCopyMarked, IsMade, copied_of};
+ghost use Rattle.patr_unify.specs.Copying.{CopiesFit, HasCopied, HasFinished, IsCopyMarked, IsMade};
 ghost use Rattle.patr_unify.specs.Deciding.{IsSettledFor};
 ghost use Rattle.patr_unify.specs.Reading.{AreHeld, key};
-ghost use Rattle.patr_unify.specs.Walking.{AllEnd, IsPaused, end_value};
+ghost use Rattle.patr_unify.specs.Walking.{AllEnd, stack_of};
 ghost use Rattle.patr_scratch.specs.Contents.{KeepsRoom};
-ghost use Rattle.patr_scratch.specs.declared.Visit.TheVariants as visit;
 
-use crate::cursor::{Cursor, FIRST, take_up};
 use crate::draft::Draft;
-use crate::ends::{address, dereference, number};
+use crate::ends::{address, number};
 use crate::keep::{end_ref, may_stay};
 use crate::merged_arcs::merged_arcs;
-use crate::walk::{enter, go_down, left_target, next_end};
-use patr_arena::{Addr, Block, Id, Memory, Nodes, Ref};
-use patr_scratch::{Copied, Place, Scratch, Target, Visit};
+use crate::walk::left_target;
+use patr_arena::{Addr, Block, Memory, Nodes, Ref};
+use patr_scratch::{Copied, Place, Scratch};
 use std::alloc::{AllocError, Global};
 
 /// A unifier.
@@ -74,48 +71,14 @@ fn finish<N: Nodes>(
     Ok(())
 }
 
-/// Goes on from the place that was the top of the stack, whose arcs were looked over as far as `from`: to an end of its
-/// arcs that was not entered, or, where there is none, to its copy. Answers how far the arcs of the new top were looked
-/// over.
-fn go_on<N: Nodes>(
-    nodes: &N,
-    top: Place,
-    from: Cursor,
-    scratch: &mut Scratch,
-    draft: &mut Draft,
-) -> Result<Cursor, Memory>
-    requires top { IsHeld (N.shown nodes.now) top.block top.offset }
-    requires held { AreHeld (N.shown nodes.now) scratch.old }
-    requires ending { AllEnd (N.shown nodes.now) scratch.old }
-    requires copies { CopiesFit (N.shown nodes.now) (length draft.old.block) scratch.old }
-    requires room { HasRoomToEnter (N.shown nodes.now) scratch.old (key (N.shown nodes.now) top) }
-    requires paused { IsPaused (N.shown nodes.now) scratch.old visit.Entered (key (N.shown nodes.now) top) from }
-    ensures gone { IfOk result (λ next. HasGoneOn (N.shown nodes.now) scratch.old scratch.new top draft.old draft.new next) }
-    ensures room { KeepsRoom scratch.old scratch.new }
-{
-    match next_end(nodes, scratch, top, Visit::Entered, from) {
-        Some(found) => {
-            go_down(nodes, top, found, scratch);
-            Ok(FIRST)
-        }
-        None => {
-            finish(nodes, top, scratch, draft)?;
-            Ok(take_up(scratch))
-        }
-    }
-}
-
-/// Copies all ends that arcs of ends lead to from the root, depth first. To find the next end, each arc is looked over at
-/// most twice.
-fn copy_from<N: Nodes>(
-    alloc: Global,
-    nodes: &N,
-    root: Place,
-    scratch: &mut Scratch,
-) -> Result<Made, Memory>
-    requires root { IsHeld (N.shown nodes.now) root.block root.offset }
-    requires settled { (l : ℕ) × (p : List ℕ) × (r : _) × (l < length (N.shown nodes.now).structure) × IsSettledFor (N.shown nodes.now) scratch.old l p r × (end_value (N.shown nodes.now) scratch.old (Node l) ≡ Node (key (N.shown nodes.now) root)) }
-    ensures made { (l : ℕ) (p : List ℕ) (r : _) → l < length (N.shown nodes.now).structure → IsSettledFor (N.shown nodes.now) scratch.old l p r → end_value (N.shown nodes.now) scratch.old (Node l) ≡ Node (key (N.shown nodes.now) root) → IfOk result (λ made. IsMade (N.shown nodes.now) l p r made.block made.root made.nodes made.arcs) }
+/// Copies all ends that arcs of ends lead to from the left side, in the order in which the walk of `decide` has left them.
+fn copy_ends<N: Nodes>(alloc: Global, nodes: &N, scratch: &mut Scratch) -> Result<Draft, Memory>
+    requires settled { (l : ℕ) × (p : List ℕ) × (r : _) × (l < length (N.shown nodes.now).structure)
+        × IsSettledFor (N.shown nodes.now) scratch.old l p r }
+    ensures copied { (l : ℕ) (p : List ℕ) (r : _) → l < length (N.shown nodes.now).structure
+        → IsSettledFor (N.shown nodes.now) scratch.old l p r → IfOk result (λ draft.
+        HasCopied (N.shown nodes.now) scratch.old scratch.new l r draft.block draft.nodes draft.arcs
+        (stack_of (N.shown nodes.now) scratch.old.order)) }
     ensures room { KeepsRoom scratch.old scratch.new }
 {
     let mut draft = Draft {
@@ -124,18 +87,11 @@ fn copy_from<N: Nodes>(
         nodes: 0,
         arcs: 0,
     };
-    enter(nodes, root, scratch);
-    let mut from = FIRST;
-    while let Some(top) = scratch.pop_visit() {
-        from = go_on(nodes, top, from, scratch, &mut draft)?;
+    for index in 0..scratch.order_len() {
+        let end = scratch.order_at(index);
+        finish(nodes, end, scratch, &mut draft)?;
     }
-    let made = end_ref(nodes, scratch, Target::Place(root));
-    Ok(Made {
-        block: draft.block,
-        root: made,
-        nodes: draft.nodes,
-        arcs: draft.arcs,
-    })
+    Ok(draft)
 }
 
 /// Makes the unifier that the marks in `scratch` stand for, after a [`crate::decide`] that answered `Solvable` for this
@@ -156,13 +112,12 @@ pub fn copy<N: Nodes>(
     ensures made { (p : List ℕ) (r : _) → IsSettledFor (N.shown nodes.now) scratch.old (number_of (N.shown nodes.now) left.block left.offset) p r → IfOk result (λ made. IsMade (N.shown nodes.now) (number_of (N.shown nodes.now) left.block left.offset) p r made.block made.root made.nodes made.arcs) }
     ensures room { KeepsRoom scratch.old scratch.new }
 {
-    match dereference(nodes, scratch, left_target(left)) {
-        Target::Atom(atom) => Ok(Made {
-            block: Block::new(alloc),
-            root: Ref::Atom(Id(atom)),
-            nodes: 0,
-            arcs: 0,
-        }),
-        Target::Place(root) => copy_from(alloc, nodes, root, scratch),
-    }
+    let draft = copy_ends(alloc, nodes, scratch)?;
+    let root = end_ref(nodes, scratch, left_target(left));
+    Ok(Made {
+        block: draft.block,
+        root,
+        nodes: draft.nodes,
+        arcs: draft.arcs,
+    })
 }

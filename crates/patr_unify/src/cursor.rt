@@ -1,6 +1,6 @@
 //! How far a walk has looked over the arcs of a place.
 ghost use Rattle.std.specs.Prelude.{◌≡◌, ◌<◌, length};
-ghost use Rattle.patr_unify.specs.Walking.{IsPutOn, IsTakenFrom, StandsFor, cursor_of};
+ghost use Rattle.patr_unify.specs.Walking.{IsPutOn, IsTakenFrom, StandsFor, added_at, cursor_of};
 
 use patr_scratch::{Place, Scratch, Target};
 
@@ -11,6 +11,18 @@ pub(crate) enum Cursor {
     Own(usize),
     /// At the added arc in this cell.
     Added(u64),
+    /// Behind the last arc.
+    Behind,
+}
+
+/// At the added arc in this cell, or behind the last one.
+pub(crate) fn at_added(cell: Option<u64>) -> Cursor
+    ensures { result ≡ added_at cell }
+{
+    match cell {
+        Some(cell) => Cursor::Added(cell),
+        None => Cursor::Behind,
+    }
 }
 
 /// At the first arc.
@@ -31,6 +43,7 @@ fn to_pair(from: Cursor, top: Place) -> (Target, Target)
             Ok(cell) => (Target::Place(top), Target::Atom(cell)),
             Err(_) => (Target::Atom(0), Target::Place(top)),
         },
+        Cursor::Behind => (Target::Place(top), Target::Place(top)),
     }
 }
 
@@ -42,7 +55,7 @@ fn from_pair(pair: (Target, Target)) -> Cursor
         Target::Atom(index) => Cursor::Own(index as usize),
         Target::Place(_) => match pair.1 {
             Target::Atom(cell) => Cursor::Added(u64::from(cell)),
-            Target::Place(_) => FIRST,
+            Target::Place(_) => Cursor::Behind,
         },
     }
 }

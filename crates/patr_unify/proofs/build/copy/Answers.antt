@@ -1,43 +1,39 @@
-use Rattle.std.proofs.Common.{◌∙◌, [], sym, ap, subst, refl}
+use Rattle.std.proofs.Common.{subst, sym}
 use Rattle.patr_arena.specs.Shown.{number_of}
-use Rattle.patr_arena.specs.declared.value.Ref.TheVariants as ref
 use Rattle.patr_arena.proofs.Showing.{held_below}
-use Rattle.patr_scratch.specs.declared.Target.TheVariants as target
-use Rattle.patr_unify.specs.Copying.{IsEndRef, IsMade}
-use Rattle.patr_unify.specs.Reading.{value_at}
-use Rattle.patr_unify.specs.Walking.{end_value}
-use Rattle.patr_unify.proofs.Making.{copied_nothing, made}
-use Rattle.patr_unify.proofs.Walks.{end_found}
+use Rattle.patr_unify.specs.Copying.{IsEndRef}
+use Rattle.patr_unify.specs.Reading.{TargetIsHeld, value_at}
+use Rattle.patr_unify.specs.Walking.{end_value, stack_of}
+use Rattle.patr_unify.proofs.CopyLoop.{behind_once}
+use Rattle.patr_unify.proofs.Making.{made}
+use Rattle.patr_unify.proofs.Worked.{worked_ends, worked_end, worked_held}
 use Rattle.patr_unify.proofs.build.copy.Goals as goal
 
-pub copy_from-requires-clause-settled : goal.copy_from-requires-clause-settled
-copy_from-requires-clause-settled g c =
+pub copy_ends-requires : goal.copy_ends-requires
+copy_ends-requires g c =
     let v = g.N.Nodes.shown c.args.nodes.now in
-    let s = g.met.N.Nodes.lawful c.args.nodes.now in
-    let w = c.args.scratch.now in
     let q = c.requires.settled in
-    let l = number_of v c.args.left.block c.args.left.offset in
-    let from = sym (ap (λ x. end_value v w x) (ap (value_at v) c.left_target.ensures)) ∙ end_found v w c.left_target.result (target.Place c.in-Place.root) q.2.ending c.in-Place.ensures in
-    (l, q.0, q.1, held_below v s c.args.left.block c.args.left.offset c.requires.left, q.2, from)
+    record { settled = (number_of v c.args.left.block c.args.left.offset, q.0, q.1, held_below v (g.met.N.Nodes.lawful c.args.nodes.now) c.args.left.block c.args.left.offset c.requires.left, q.2) }
 
-pub returns-in-Atom-clause-made : goal.returns-in-Atom-clause-made
-returns-in-Atom-clause-made g c p r set =
+pub end_ref-root-requires : goal.end_ref-root-requires
+end_ref-root-requires g c =
+    let v = g.N.Nodes.shown c.args.nodes.now in
+    let w = c.args.scratch.now in
+    let t = c.copy_ends.new.scratch in
+    let q = c.requires.settled in
+    let has = c.in_ok-draft.ensures.copied _ q.0 q.1 (held_below v (g.met.N.Nodes.lawful c.args.nodes.now) c.args.left.block c.args.left.offset c.requires.left) q.2 in
+    record { target = subst (TargetIsHeld v) (sym c.left_target.ensures) c.requires.left; held = worked_held v w t has.still q.2.held; ending = worked_ends v w t has.still q.2.ending }
+
+pub returns-clause-made : goal.returns-clause-made
+returns-clause-made g c p r set =
     let v = g.N.Nodes.shown c.args.nodes.now in
     let s = g.met.N.Nodes.lawful c.args.nodes.now in
     let w = c.args.scratch.now in
+    let t = c.copy_ends.new.scratch in
     let l = number_of v c.args.left.block c.args.left.offset in
     let hl = held_below v s c.args.left.block c.args.left.offset c.requires.left in
-    let from = sym (ap (λ x. end_value v w x) (ap (value_at v) c.left_target.ensures)) ∙ end_found v w c.left_target.result (target.Atom c.in-Atom.atom) set.ending c.in-Atom.ensures in
-    let has = copied_nothing v s w l p r hl set c.in-Atom.atom from in
-    let root = ref.Atom (record { 0 = c.in-Atom.atom }) in
-    subst (λ b. IsMade v l p r b root 0 0) (sym c.new.ensures) (made v s w w l p r hl set [] 0 0 has root (subst (λ x. IsEndRef v w x root) (sym from) refl))
-
-pub returns-in-Place-clause-made : goal.returns-in-Place-clause-made
-returns-in-Place-clause-made g c p r set =
-    let v = g.N.Nodes.shown c.args.nodes.now in
-    let s = g.met.N.Nodes.lawful c.args.nodes.now in
-    let w = c.args.scratch.now in
-    let l = number_of v c.args.left.block c.args.left.offset in
-    let hl = held_below v s c.args.left.block c.args.left.offset c.requires.left in
-    let from = sym (ap (λ x. end_value v w x) (ap (value_at v) c.left_target.ensures)) ∙ end_found v w c.left_target.result (target.Place c.in-Place.root) set.ending c.in-Place.ensures in
-    c.copy_from.ensures.made l p r hl set from
+    let has = c.in_ok-draft.ensures.copied l p r hl set in
+    let d = c.in_ok-draft.draft in
+    let ks = stack_of v w.order in
+    let root = subst (λ x. IsEndRef v t x c.end_ref-root.result) (worked_end v w t has.still _) (subst (λ x. IsEndRef v t (end_value v t (value_at v x)) c.end_ref-root.result) c.left_target.ensures c.end_ref-root.ensures.same) in
+    made v s w t l p r hl set d.block d.nodes d.arcs ks has (behind_once v w ks set.ordered.behind) set.ordered.ends set.ordered.all c.end_ref-root.result root

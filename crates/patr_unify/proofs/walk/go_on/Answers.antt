@@ -1,4 +1,4 @@
-use Rattle.std.proofs.Common.{◌∙◌, inl, inr, refl, sym, ap, subst}
+use Rattle.std.proofs.Common.{◌≡◌, ◌<◌, ◌∷◌, ◌++◌, ◌∙◌, [], length, inl, inr, refl, sym, ap, subst}
 use Rattle.patr_scratch.specs.declared.Visit.TheVariants as visit
 use Rattle.patr_scratch.specs.Contents.{Contents}
 use Rattle.patr_unify.specs.Reading.{key}
@@ -36,32 +36,36 @@ returns-else-same_visit-clause-turned g c =
     let f = c.in-Some.ensures.0 in
     let state = visit_is v c.args.scratch.now (g.met.N.Nodes.lawful c.args.nodes.now) p c.number.result c.visit-visit.result f.3.0 c.number.ensures c.visit-visit.ensures in
     inr (
-      (
-        f.0,
-        f.1,
-        p,
-        f.2,
-        f.3,
-        λ e. c.same_visit.ensures.apart c.if-same_visit.false (state ∙ e),
-        c.go_down.ensures.visited,
-        c.go_down.ensures.pushed,
-        c.in-Some.found.from,
-        c.in-Some.ensures.1,
-        c.go_down.ensures.put,
-      ),
+      record {
+        place = p;
+        found = f;
+        new = λ e. c.same_visit.ensures.apart c.if-same_visit.false (state ∙ e);
+        visited = c.go_down.ensures.visited;
+        visits = c.go_down.ensures.pushed;
+        from = c.in-Some.found.from;
+        paused = c.in-Some.ensures.1;
+        put = c.go_down.ensures.put;
+        order = c.go_down.ensures.order;
+      },
       refl,
     )
+
+pub push_order-requires : goal.push_order-requires
+push_order-requires g c = subst (λ (u : Contents). length u.order < u.order_room) (sym c.set_visit.ensures) c.requires.order
 
 pub returns-in-None-clause-turned : goal.returns-in-None-clause-turned
 returns-in-None-clause-turned g c =
     let v = g.N.Nodes.shown c.args.nodes.now in
     let w = c.args.scratch.now in
     let u = c.set_visit.new.self in
+    let m = c.push_order.new.self in
     let t = c.take_up.new.scratch in
     let set = visited v w u c.args.top c.number-in-None.result visit.Left (g.met.N.Nodes.lawful c.args.nodes.now) c.requires.held c.requires.top c.number-in-None.ensures c.set_visit.ensures in
-    inl (
-      visited_then v w u t (key v c.args.top) visit.Left u.visits t.pairs set c.take_up.ensures.rest,
-      ap (λ (z : Contents). z.visits) c.take_up.ensures.rest ∙ ap (λ (z : Contents). z.visits) c.set_visit.ensures,
-      c.in-None.ensures,
-      subst (λ qs. IsTakenFrom qs t.pairs c.take_up.result) (ap (λ (z : Contents). z.pairs) c.set_visit.ensures) c.take_up.ensures.taken,
-    )
+    let moved : t ≡ record u { pairs = t.pairs; order = u.order ++ c.args.top ∷ [] } = c.take_up.ensures.rest ∙ ap (λ (z : Contents). record z { pairs = t.pairs }) c.push_order.ensures in
+    inl (record {
+      visited = visited_then v w u t (key v c.args.top) visit.Left u.visits (u.order ++ c.args.top ∷ []) t.pairs set moved;
+      visits = ap (λ (z : Contents). z.visits) moved ∙ ap (λ (z : Contents). z.visits) c.set_visit.ensures;
+      none = c.in-None.ensures;
+      taken = subst (λ qs. IsTakenFrom qs t.pairs c.take_up.result) (ap (λ (z : Contents). z.pairs) c.push_order.ensures ∙ ap (λ (z : Contents). z.pairs) c.set_visit.ensures) c.take_up.ensures.taken;
+      order = ap (λ (z : Contents). z.order) moved ∙ ap (λ (z : Contents). z.order ++ c.args.top ∷ []) c.set_visit.ensures;
+    })

@@ -4,7 +4,7 @@ use Rattle.patr_scratch.specs.declared.Target.TheVariants as target
 use Rattle.patr_unify.specs.Reading.{key, value_at}
 use Rattle.patr_unify.specs.Walking.{HasWalked, IsAtPlace, IsWalkable}
 use Rattle.patr_unify.proofs.Outcomes.{log_ends}
-use Rattle.patr_unify.proofs.Walked.{at_place, atom_walked, entered_on, has_room, led_back, left_on, none_popped, not_turned, root_is, root_room, still_ends, still_held, turn_falls, walked_off, walked_starts}
+use Rattle.patr_unify.proofs.Walked.{at_place, atom_walked, entered_on, has_order_room, has_room, led_back, left_on, none_popped, not_turned, root_is, root_room, still_ends, still_held, turn_falls, walked_off, walked_starts}
 use Rattle.patr_unify.proofs.walk.is_acyclic.Given.{Over}
 use Rattle.patr_unify.proofs.walk.is_acyclic.Goals.{In-Some}
 use Rattle.patr_unify.proofs.walk.is_acyclic.Goals as goal
@@ -37,7 +37,7 @@ loop-top-init g c =
     record {
       walked = λ i.
           (let root = root_is v w l i c.left_target.result (target.Place c.in-Place.root) (ap (value_at v) c.left_target.ensures) c.in-Place.ensures in
-          walked_starts v w c.enter.new.scratch l i c.in-Place.root c.in-Place.ensures.held root.0 root.1 c.enter.ensures.visited c.enter.ensures.pushed c.enter.ensures.pairs);
+          walked_starts v w c.enter.new.scratch l i c.in-Place.root c.in-Place.ensures.held root.0 root.1 c.enter.ensures.visited c.enter.ensures.pushed c.enter.ensures.pairs c.enter.ensures.order);
       room = search rules;
     }
 
@@ -53,7 +53,7 @@ go_on-requires g c =
     let t = c.pop_visit.new.self in
     let i = c.requires.start in
     let at = at_facts g (goal.at.go_on-requires g c).In-Some i in
-    record { top = at.top_held; held = still_held v w t at.has.still i.held; ending = still_ends v w t _ i at.has.still; room = has_room v w t _ i c.in-Some.top c.loop-top.from at; paused = at.paused.0 }
+    record { top = at.top_held; held = still_held v w t at.has.still i.held; ending = still_ends v w t _ i at.has.still; room = has_room v w t _ i c.in-Some.top c.loop-top.from at; order = has_order_room v w t _ i c.in-Some.top c.loop-top.from at; paused = at.paused.0 }
 
 pub returns-in_default-go_on-clause-walked : goal.returns-in_default-go_on-clause-walked
 returns-in_default-go_on-clause-walked g c i =
@@ -66,7 +66,7 @@ pub loop-top-smaller : goal.loop-top-smaller
 loop-top-smaller g c =
     let v = g.N.Nodes.shown c.args.nodes.now in
     let at = at_facts g (goal.at.loop-top-smaller g c).In-Some c.requires.start in
-    turn_falls v (g.met.N.Nodes.lawful c.args.nodes.now) c.loop-top.scratch c.pop_visit.new.self c.go_on.new.scratch c.in-Some.top at.top_held (at.has.entered (key v c.in-Some.top) (inl refl)) c.in-Some.ensures.rest c.in-Some.ensures.last
+    turn_falls v (g.met.N.Nodes.lawful c.args.nodes.now) c.loop-top.scratch c.pop_visit.new.self c.go_on.new.scratch c.in-Some.top (at.has.entered (key v c.in-Some.top) (inl refl)) c.in-Some.ensures.rest c.in-Some.ensures.last
     c.in-Some-go_on.next c.in-Some-go_on.ensures.turned
 
 pub loop-top-preserved : goal.loop-top-preserved

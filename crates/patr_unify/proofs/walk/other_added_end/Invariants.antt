@@ -12,7 +12,7 @@ invariant-loop-next g l =
     let list = (marks_of v l.scratch k).added in
     record {
       cell : EndsOrHas list l.next;
-      passed : IsPassed v l.scratch l.passed (both v l.scratch k) (arcs_at v (after list l.next));
+      passed : IsPassed v l.scratch (both v l.scratch k) (arcs_at v (after list l.next));
     }
 
 abbrev pub decreases-loop-next : goal.decreases-loop-next

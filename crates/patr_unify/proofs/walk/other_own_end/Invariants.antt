@@ -10,4 +10,4 @@ abbrev pub invariant-loop-index : goal.invariant-loop-index
 invariant-loop-index g l =
     let v = g.N.Nodes.shown l.nodes in
     let k = key v l.place in
-    IsPassed v l.scratch l.passed (both v l.scratch k) (drop l.index (own (sides v.structure) k) ++ added_of v l.scratch k)
+    IsPassed v l.scratch (both v l.scratch k) (drop l.index (own (sides v.structure) k) ++ added_of v l.scratch k)

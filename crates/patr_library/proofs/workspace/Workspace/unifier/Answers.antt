@@ -17,6 +17,7 @@ decide-requires-clause-room g c =
     (record {
       for_places = (let p = r.for_places in omega (arith, p, nodes));
       for_visits = (let p = r.for_visits in omega (arith, p, nodes, visits));
+      for_order = (let p = r.for_order in omega (arith, p, nodes, visits));
       for_arcs = (let p = r.for_arcs in omega (arith, p, arcs, whole));
       for_pairs = (let p = r.for_pairs in omega (arith, p, arcs, whole));
     })

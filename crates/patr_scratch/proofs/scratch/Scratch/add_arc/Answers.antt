@@ -26,6 +26,6 @@ returns c =
     let new : ArcCell = record { attribute = c.args.attribute; to = c.args.to; next = first_of (mark_at was.table k).added } in
     let w = arc_added was.table was.arcs c.slot-slot.result 0 c.get-mark.result.now c.first_of-next.result c.last_or-last.result c.len-cell.result c.args.attribute c.args.to c.set_added.new.self c.push.new.self c.args.side c.args.number
     c.slot-slot.ensures c.get-mark.ensures c.len-cell.ensures c.first_of-next.ensures c.last_or-last.ensures c.push.ensures c.set_added.ensures in
-    ap (λ (ms : List Mark). contents_of ms c.push.new.self was.pairs was.visits) w.0
-    ∙ (ap (λ (a : WithRoom ArcCell). contents_of (set was.table k (front_mark was.table k (length was.arcs.list))) a was.pairs was.visits) w.1
-    ∙ with_arc_view was.table was.arcs was.pairs was.visits c.args.self.now c.args.side c.args.number new c.self.invariant c.self.view_is c.requires.place refl)
+    ap (λ (ms : List Mark). contents_of ms c.push.new.self was.pairs was.visits was.order) w.0
+    ∙ (ap (λ (a : WithRoom ArcCell). contents_of (set was.table k (front_mark was.table k (length was.arcs.list))) a was.pairs was.visits was.order) w.1
+    ∙ with_arc_view was.table was.arcs was.pairs was.visits was.order c.args.self.now c.args.side c.args.number new c.self.invariant c.self.view_is c.requires.place refl)

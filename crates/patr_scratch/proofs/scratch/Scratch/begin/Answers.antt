@@ -14,5 +14,5 @@ invariant_of-self c =
 
 pub returns : goal.returns
 returns c =
-    begun_view c.self.inside.table c.self.inside.arcs c.self.inside.pairs c.self.inside.visits c.args.self.now c.begin.new.self c.clear.new.self c.clear-2.new.self c.clear-3.new.self
-    c.self.view_is c.begin.ensures c.clear.ensures c.clear-2.ensures c.clear-3.ensures
+    begun_view c.self.inside.table c.self.inside.arcs c.self.inside.pairs c.self.inside.visits c.self.inside.order c.args.self.now c.begin.new.self c.clear.new.self c.clear-2.new.self c.clear-3.new.self c.clear-4.new.self
+    c.self.view_is c.begin.ensures c.clear.ensures c.clear-2.ensures c.clear-3.ensures c.clear-4.ensures

@@ -5,4 +5,4 @@ use Rattle.patr_scratch.proofs.scratch.Scratch.first_arc.Goals as goal
 pub returns : goal.returns
 returns c =
     let was = c.self.inside in
-    c.seen.ensures ∙ c.first_of.ensures ∙ first_is was.table was.arcs was.pairs was.visits c.args.self.now c.args.side c.args.number c.slot.result c.get.result.now c.self.invariant c.self.view_is c.slot.ensures c.get.ensures
+    c.seen.ensures ∙ c.first_of.ensures ∙ first_is was.table was.arcs was.pairs was.visits was.order c.args.self.now c.args.side c.args.number c.slot.result c.get.result.now c.self.invariant c.self.view_is c.slot.ensures c.get.ensures

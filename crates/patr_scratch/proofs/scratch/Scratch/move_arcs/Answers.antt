@@ -14,7 +14,7 @@ pub returns-in_default : goal.returns-in_default
 returns-in_default c =
     let was = c.self.inside in
     nothing_moved c.args.self.now c.args.from_side c.args.to_side c.args.from c.args.to
-    (list_empty was.table was.arcs was.pairs was.visits c.args.self.now c.args.from_side c.args.from c.slot-from_slot.result c.get-source.result.now c.self.view_is c.slot-from_slot.ensures c.get-source.ensures c.in_default.is)
+    (list_empty was.table was.arcs was.pairs was.visits was.order c.args.self.now c.args.from_side c.args.from c.slot-from_slot.result c.get-source.result.now c.self.view_is c.slot-from_slot.ensures c.get-source.ensures c.in_default.is)
 
 pub get-joint-requires : goal.get-joint-requires
 get-joint-requires c = last_below c.self.inside.table c.self.inside.arcs.list c.slot-from_slot.result c.get-source.result.now c.in-Some.moved c.self.invariant c.get-source.ensures c.in-Some.is
@@ -49,6 +49,6 @@ returns c =
     c.args.from_side c.args.to_side c.args.from c.args.to
     c.slot-from_slot.ensures c.slot-to_slot.ensures c.get-target.ensures c.first_of-next.ensures c.last_or-last.ensures below c.get-joint.ensures c.set.ensures apart c.set_added.ensures c.set_added-2.ensures in
     let some : (mark_at was.table A).added ≡ Some c.in-Some.moved = ap (λ (u : Mark). u.added) (sym (c.get-source.ensures ∙ ap (mark_at was.table) c.slot-from_slot.ensures)) ∙ c.in-Some.is in
-    ap (λ (ms : List Mark). contents_of ms c.set.new.self was.pairs was.visits) w.0
-    ∙ (ap (λ (a : WithRoom ArcCell). contents_of (moved_marks was.table A B c.in-Some.moved) a was.pairs was.visits) w.1
-    ∙ moved_view was.table was.arcs was.pairs was.visits c.args.self.now c.args.from_side c.args.to_side c.args.from c.args.to c.in-Some.moved c.self.invariant c.self.view_is c.requires.from c.requires.to apart some)
+    ap (λ (ms : List Mark). contents_of ms c.set.new.self was.pairs was.visits was.order) w.0
+    ∙ (ap (λ (a : WithRoom ArcCell). contents_of (moved_marks was.table A B c.in-Some.moved) a was.pairs was.visits was.order) w.1
+    ∙ moved_view was.table was.arcs was.pairs was.visits was.order c.args.self.now c.args.from_side c.args.to_side c.args.from c.args.to c.in-Some.moved c.self.invariant c.self.view_is c.requires.from c.requires.to apart some)

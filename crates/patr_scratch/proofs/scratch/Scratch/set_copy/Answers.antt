@@ -7,5 +7,5 @@ use Rattle.patr_scratch.proofs.scratch.Scratch.set_copy.Goals as goal
 pub returns : goal.returns
 returns c =
     let was = c.self.inside in
-    mark_changed was.table was.arcs was.pairs was.visits c.args.self.now c.args.side c.args.number c.slot-slot.result c.set_copied.new.self (λ (m : Mark). record m { copied = Some c.args.made }) (λ (p : PlaceMarks). record p { copied = Some c.args.made })
+    mark_changed was.table was.arcs was.pairs was.visits was.order c.args.self.now c.args.side c.args.number c.slot-slot.result c.set_copied.new.self (λ (m : Mark). record m { copied = Some c.args.made }) (λ (p : PlaceMarks). record p { copied = Some c.args.made })
     c.self.view_is c.slot-slot.ensures c.set_copied.ensures (λ m. refl)

@@ -7,5 +7,5 @@ use Rattle.patr_scratch.proofs.scratch.Scratch.set_forward.Goals as goal
 pub returns : goal.returns
 returns c =
     let was = c.self.inside in
-    mark_changed was.table was.arcs was.pairs was.visits c.args.self.now c.args.side c.args.number c.slot-slot.result c.set_forward.new.self (λ (m : Mark). record m { forward = Some c.args.to }) (λ (p : PlaceMarks). record p { forward = Some c.args.to })
+    mark_changed was.table was.arcs was.pairs was.visits was.order c.args.self.now c.args.side c.args.number c.slot-slot.result c.set_forward.new.self (λ (m : Mark). record m { forward = Some c.args.to }) (λ (p : PlaceMarks). record p { forward = Some c.args.to })
     c.self.view_is c.slot-slot.ensures c.set_forward.ensures (λ m. refl)
