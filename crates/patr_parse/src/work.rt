@@ -125,7 +125,7 @@ fn has_unifier<N: Nodes, L: Ledger>(
         (N.shown nodes.now).structure (value_of (N.shown nodes.now) pair.right) G g → ⊥) }
     ensures steps { IfOk result (λ _. steps.new ≡ steps.old + 1) }
 {
-    scratch.reserve(nodes.count(), pair.reach.nodes, pair.reach.arcs)?;
+    scratch.make_room(nodes.count(), pair.reach.nodes, pair.reach.arcs)?;
     match decide(nodes, pair.left, &[pair.slot], pair.right, scratch, steps) {
         Decision::Solvable => Ok(true),
         Decision::NoUnifier => Ok(false),

@@ -1,5 +1,5 @@
 //! The marks of a unification: a table, stacks of arc cells, pairs and visits, and the order in which a walk leaves places.
-ghost use Rattle.std.specs.Prelude.{◌≡◌, ◌≢◌, ◌<◌, ◌≤◌, ◌∷◌, ◌++◌, ℕ, [], IfOk, MatchOption, Some, None, get_or, length};
+ghost use Rattle.std.specs.Prelude.{◌≡◌, ◌≢◌, ◌<◌, ◌≤◌, ◌∷◌, ◌++◌, ℕ, [], IfOk, MatchOption, Some, None, get_or, length, true};
 ghost use Rattle.patr_scratch.specs.Linked.{first_of, last_or};
 ghost use Rattle.patr_scratch.specs.Contents.{HasPlace, HasCell, HasRoom, IsArcOf, IsBlank, IsCell, KeepsRoom, no_room, begun, first_cell, marks, put, with_arc, with_moved};
 
@@ -130,6 +130,29 @@ impl Scratch {
         self.order.reserve(visits, NO_PLACE)?;
         self.arcs.reserve(arcs, ArcCell::BLANK)?;
         self.pairs.reserve(pairs, (NO_TARGET, NO_TARGET))
+    }
+
+    /// Whether there is the room that `reserve` takes.
+    fn has_room(&self, table: u64, nodes: u64, arcs: u64) -> bool
+        ensures { result ≡ true → HasRoom self.now table nodes arcs }
+    {
+        table <= (self.table.len() / 2) as u64
+            && nodes <= u64::from(self.visits.room())
+            && nodes <= u64::from(self.order.room())
+            && arcs <= u64::from(self.arcs.room())
+            && arcs < u64::from(self.pairs.room())
+    }
+
+    /// Takes the room that `reserve` takes, where some of it is missing. Only then marks are dropped. Fails for want of
+    /// memory alone. No room is smaller than before.
+    pub fn make_room(&mut self, table: u64, nodes: u64, arcs: u64) -> Result<(), Memory>
+        ensures kept { KeepsRoom self.old self.new }
+        ensures room { IfOk result (λ _. HasRoom self.new table nodes arcs) }
+    {
+        if self.has_room(table, nodes, arcs) {
+            return Ok(());
+        }
+        self.reserve(table, nodes, arcs)
     }
 
     /// Goes to the next generation: no place has a mark, and all added arcs, pairs, visits and places that were left are

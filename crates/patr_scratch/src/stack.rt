@@ -43,6 +43,13 @@ impl<T: Copy + Drop> Stack<T> {
         self.used
     }
 
+    /// For how many items there is room.
+    pub(crate) fn room(&self) -> u32
+        ensures { result ≡ self.now.room }
+    {
+        self.items.len() as u32
+    }
+
     /// Drops all items and keeps the room.
     pub(crate) fn clear(&mut self)
         ensures { self.new ≡ record { list = []; room = self.old.room } }

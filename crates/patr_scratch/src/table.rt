@@ -122,6 +122,13 @@ impl Table {
         }
     }
 
+    /// For how many places of both sides there is room.
+    pub(crate) fn len(&self) -> usize
+        ensures { result ≡ length self.now }
+    {
+        self.cells.len()
+    }
+
     /// What this generation set there.
     pub(crate) fn get(&self, slot: usize) -> &Mark
         requires { slot < length self.now }

@@ -126,6 +126,18 @@ fn places_that_were_left_stay_in_order(rt: HostRuntime) -> Result<(), Fail> {
     Ok(())
 }
 
+#[test]
+fn room_is_made_where_it_is_missing(rt: HostRuntime) -> Result<(), Fail> {
+    let mut scratch = with_room(rt.alloc(), 1)?;
+    scratch.begin();
+    scratch.set_visit(Side::Left, 1, Visit::Left);
+    scratch.make_room(2, 2, 2)?;
+    assert_eq!(rt; scratch.visit(Side::Left, 1), Visit::Left);
+    scratch.make_room(3, 2, 2)?;
+    assert_eq!(rt; scratch.visit(Side::Left, 2), Visit::Unseen);
+    Ok(())
+}
+
 /// First generations from which a few steps lead up to the last generation and past it.
 const STAMPS: [u32; 4] = [1, 4_294_967_293, 4_294_967_294, 4_294_967_295];
 
