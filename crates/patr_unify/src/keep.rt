@@ -9,7 +9,7 @@ ghost use Rattle.patr_unify.specs.Copying.{AllLead, CopiesFit, Fits, IsEndRef, I
 ghost use Rattle.patr_unify.specs.Reading.{AreHeld, TargetIsHeld, added_of, key, value_at};
 ghost use Rattle.patr_unify.specs.Walking.{AllEnd, end_value};
 
-use crate::ends::{address, dereference, number};
+use crate::ends::{End, address, dereference, number};
 use crate::lists::{find_own, target_on};
 use crate::walk::same_visit;
 use patr_arena::{Addr, Id, Nodes, Ref, Value};
@@ -24,8 +24,8 @@ pub(crate) fn end_ref<N: Nodes>(nodes: &N, scratch: &Scratch, target: Target) ->
     ensures fits { (size : ℕ) → CopiesFit (N.shown nodes.now) size scratch.now → Fits (N.shown nodes.now) size result }
 {
     match dereference(nodes, scratch, target) {
-        Target::Atom(atom) => Ref::Atom(Id(atom)),
-        Target::Place(place) => match scratch.copy_of(place.side, number(nodes, place)) {
+        End::Atom(atom) => Ref::Atom(Id(atom)),
+        End::Place(place, number) => match scratch.copy_of(place.side, number) {
             Some(made) => ref_to(made),
             None => Ref::Old(address(place)),
         },

@@ -9,7 +9,7 @@ ghost use Rattle.patr_unify.specs.Reading.{AreHeld, PairsHeld, TargetIsHeld, key
 ghost use Rattle.patr_unify.specs.Stepping.{BareOrNot, BoundOrNot, Covers, HasLog, IsRunning, IsSteady, MergesFit, Outcome};
 
 use crate::clash::atoms_differ;
-use crate::ends::{address, dereference, number};
+use crate::ends::{End, address, dereference, number};
 use crate::merge::merge;
 use patr_arena::Nodes;
 use patr_scratch::{Place, Scratch, Side, Target};
@@ -77,13 +77,13 @@ pub(crate) fn unify_pair<N: Nodes>(nodes: &N, a: Target, b: Target, scratch: &mu
     ensures outcome { (log : List Forward) → HasLog (N.shown nodes.now) scratch.old log → Outcome (N.shown nodes.now) scratch.old scratch.new log a b result }
 {
     match dereference(nodes, scratch, a) {
-        Target::Atom(atom) => match dereference(nodes, scratch, b) {
-            Target::Atom(other) => atom == other,
-            Target::Place(place) => bind(nodes, place, atom, scratch),
+        End::Atom(atom) => match dereference(nodes, scratch, b) {
+            End::Atom(other) => atom == other,
+            End::Place(place, _) => bind(nodes, place, atom, scratch),
         },
-        Target::Place(first) => match dereference(nodes, scratch, b) {
-            Target::Atom(atom) => bind(nodes, first, atom, scratch),
-            Target::Place(second) => {
+        End::Place(first, _) => match dereference(nodes, scratch, b) {
+            End::Atom(atom) => bind(nodes, first, atom, scratch),
+            End::Place(second, _) => {
                 if same_place(first, second) {
                     return true;
                 }

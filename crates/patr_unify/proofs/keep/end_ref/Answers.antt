@@ -19,9 +19,9 @@ returns-in-Some g c =
     let w = c.args.scratch.now in
     let p = c.in-Place.place in
     let made = c.in-Some.made in
-    let mark = copied_is v w (g.met.N.Nodes.lawful c.args.nodes.now) p c.number.result (Some made) c.in-Place.ensures.held c.number.ensures c.in-Some.ensures in
+    let mark = copied_is v w (g.met.N.Nodes.lawful c.args.nodes.now) p c.in-Place.number (Some made) c.in-Place.ensures.0.held c.in-Place.ensures.1 c.in-Some.ensures in
     record {
-      same = subst (λ x. IsEndRef v w x c.ref_to.result) (sym (end_found v w c.args.target (target.Place p) c.requires.ending c.in-Place.ensures)) (some_ref v w (key v p) (Some made) made c.ref_to.result mark refl c.ref_to.ensures);
+      same = subst (λ x. IsEndRef v w x c.ref_to.result) (sym (end_found v w c.args.target (target.Place p) c.requires.ending c.in-Place.ensures.0)) (some_ref v w (key v p) (Some made) made c.ref_to.result mark refl c.ref_to.ensures);
       fits = λ size fit. mark_fits v w size (key v p) (Some made) made c.ref_to.result fit mark refl c.ref_to.ensures;
     }
 
@@ -30,5 +30,5 @@ returns-in-None-clause-same g c =
     let v = g.N.Nodes.shown c.args.nodes.now in
     let w = c.args.scratch.now in
     let p = c.in-Place.place in
-    let mark = copied_is v w (g.met.N.Nodes.lawful c.args.nodes.now) p c.number.result None c.in-Place.ensures.held c.number.ensures c.in-None.ensures in
-    subst (λ x. IsEndRef v w x (ref.Old c.address.result)) (sym (end_found v w c.args.target (target.Place p) c.requires.ending c.in-Place.ensures)) (none_ref v w (key v p) None (ref.Old c.address.result) mark refl)
+    let mark = copied_is v w (g.met.N.Nodes.lawful c.args.nodes.now) p c.in-Place.number None c.in-Place.ensures.0.held c.in-Place.ensures.1 c.in-None.ensures in
+    subst (λ x. IsEndRef v w x (ref.Old c.address.result)) (sym (end_found v w c.args.target (target.Place p) c.requires.ending c.in-Place.ensures.0)) (none_ref v w (key v p) None (ref.Old c.address.result) mark refl)

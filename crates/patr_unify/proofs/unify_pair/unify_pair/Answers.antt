@@ -22,35 +22,35 @@ dereference-requires-in-Place-clause-ending g c = ending_of (g.N.Nodes.shown c.a
 pub returns-then-same_place-clause-outcome : goal.returns-then-same_place-clause-outcome
 returns-then-same_place-clause-outcome g c log h =
     let v = g.N.Nodes.shown c.args.nodes.now in
-    let e = ends_are v c.args.scratch.now log c.args.a c.args.b (target.Place c.in-Place.first) (target.Place c.in-Place-dereference-2.second) h c.in-Place.ensures c.in-Place-dereference-2.ensures in
+    let e = ends_are v c.args.scratch.now log c.args.a c.args.b (target.Place c.in-Place.first) (target.Place c.in-Place-dereference-2.second) h c.in-Place.ensures.0 c.in-Place-dereference-2.ensures.0 in
     let same : c.in-Place.first ≡ c.in-Place-dereference-2.second = c.same_place.ensures.yes c.if-same_place.true in
     skip_step v c.args.scratch.now log c.args.a c.args.b h (e.first ∙ (ap (λ (p : Place). Node (key v p)) same ∙ sym e.second))
 
 pub returns-then-atoms_differ-clause-outcome : goal.returns-then-atoms_differ-clause-outcome
 returns-then-atoms_differ-clause-outcome g c log h =
     let v = g.N.Nodes.shown c.args.nodes.now in
-    let e = ends_are v c.args.scratch.now log c.args.a c.args.b (target.Place c.in-Place.first) (target.Place c.in-Place-dereference-2.second) h c.in-Place.ensures c.in-Place-dereference-2.ensures in
+    let e = ends_are v c.args.scratch.now log c.args.a c.args.b (target.Place c.in-Place.first) (target.Place c.in-Place-dereference-2.second) h c.in-Place.ensures.0 c.in-Place-dereference-2.ensures.0 in
     record { popped = refl; clash = inr (inr (key v c.in-Place.first, key v c.in-Place-dereference-2.second, inl (e.first, e.second), c.atoms_differ.ensures c.if-atoms_differ.true)) }
 
 -- the two places have two keys, and are ends
 place_facts : (g : Over) (c : After-goes_first g) → (key (g.N.Nodes.shown c.args.nodes.now) c.in-Place.first ≢ key (g.N.Nodes.shown c.args.nodes.now) c.in-Place-dereference-2.second)
     × ((log : List Forward) → HasLog (g.N.Nodes.shown c.args.nodes.now) c.args.scratch.now log → AreEnds (g.N.Nodes.shown c.args.nodes.now) log c.args.a c.args.b (target.Place c.in-Place.first) (target.Place c.in-Place-dereference-2.second))
 place_facts g c = (
-  keys_apart (g.N.Nodes.shown c.args.nodes.now) (g.met.N.Nodes.lawful c.args.nodes.now) c.in-Place.first c.in-Place-dereference-2.second c.in-Place.ensures.held c.in-Place-dereference-2.ensures.held c.same_place.result c.same_place.ensures.no c.if-same_place.false,
-  λ log h. ends_are (g.N.Nodes.shown c.args.nodes.now) c.args.scratch.now log c.args.a c.args.b (target.Place c.in-Place.first) (target.Place c.in-Place-dereference-2.second) h c.in-Place.ensures c.in-Place-dereference-2.ensures,
+  keys_apart (g.N.Nodes.shown c.args.nodes.now) (g.met.N.Nodes.lawful c.args.nodes.now) c.in-Place.first c.in-Place-dereference-2.second c.in-Place.ensures.0.held c.in-Place-dereference-2.ensures.0.held c.same_place.result c.same_place.ensures.no c.if-same_place.false,
+  λ log h. ends_are (g.N.Nodes.shown c.args.nodes.now) c.args.scratch.now log c.args.a c.args.b (target.Place c.in-Place.first) (target.Place c.in-Place-dereference-2.second) h c.in-Place.ensures.0 c.in-Place-dereference-2.ensures.0,
 )
 
 pub merge-requires : goal.merge-requires
 merge-requires g c =
     let f = place_facts g (goal.at.merge-requires g c).After-goes_first in
     let e = f.1 c.requires.log.0 c.requires.log.1 in
-    record { from = c.in-Place.ensures.held; to = c.in-Place-dereference-2.ensures.held; apart = f.0; held = c.requires.held; pairs_held = c.requires.pairs_held; room = c.requires.log.3 _ _ (inl (e.first, e.second)) f.0 }
+    record { from = c.in-Place.ensures.0.held; to = c.in-Place-dereference-2.ensures.0.held; apart = f.0; held = c.requires.held; pairs_held = c.requires.pairs_held; room = c.requires.log.3 _ _ (inl (e.first, e.second)) f.0 }
 
 pub merge-requires-else-goes_first : goal.merge-requires-else-goes_first
 merge-requires-else-goes_first g c =
     let f = place_facts g (goal.at.merge-requires-else-goes_first g c).After-goes_first in
     let e = f.1 c.requires.log.0 c.requires.log.1 in
-    record { from = c.in-Place-dereference-2.ensures.held; to = c.in-Place.ensures.held; apart = λ q. f.0 (sym q); held = c.requires.held; pairs_held = c.requires.pairs_held; room = c.requires.log.3 _ _ (inr (e.first, e.second)) (λ q. f.0 (sym q)) }
+    record { from = c.in-Place-dereference-2.ensures.0.held; to = c.in-Place.ensures.0.held; apart = λ q. f.0 (sym q); held = c.requires.held; pairs_held = c.requires.pairs_held; room = c.requires.log.3 _ _ (inr (e.first, e.second)) (λ q. f.0 (sym q)) }
 
 pub returns-in-Atom-dereference-clause-outcome : goal.returns-in-Atom-dereference-clause-outcome
 returns-in-Atom-dereference-clause-outcome g c log h =
@@ -60,23 +60,23 @@ returns-in-Atom-dereference-clause-outcome g c log h =
 
 pub returns-in-Place-dereference-clause-steady : goal.returns-in-Place-dereference-clause-steady
 returns-in-Place-dereference-clause-steady g c =
-    bind_keeps (g.N.Nodes.shown c.args.nodes.now) c.args.scratch.now c.bind.new.scratch c.in-Place-dereference.place c.in-Atom.atom c.bind.result (g.met.N.Nodes.lawful c.args.nodes.now) c.requires.held c.requires.pairs_held c.in-Place-dereference.ensures.held c.bind.ensures
+    bind_keeps (g.N.Nodes.shown c.args.nodes.now) c.args.scratch.now c.bind.new.scratch c.in-Place-dereference.place c.in-Atom.atom c.bind.result (g.met.N.Nodes.lawful c.args.nodes.now) c.requires.held c.requires.pairs_held c.in-Place-dereference.ensures.0.held c.bind.ensures
 
 pub returns-in-Place-dereference-clause-outcome : goal.returns-in-Place-dereference-clause-outcome
 returns-in-Place-dereference-clause-outcome g c log h =
     let v = g.N.Nodes.shown c.args.nodes.now in
-    let e = ends_are v c.args.scratch.now log c.args.a c.args.b (target.Atom c.in-Atom.atom) (target.Place c.in-Place-dereference.place) h c.in-Atom.ensures c.in-Place-dereference.ensures in
-    bind_outcome v c.args.scratch.now c.bind.new.scratch log c.args.a c.args.b c.in-Place-dereference.place c.in-Atom.atom c.bind.result (g.met.N.Nodes.lawful c.args.nodes.now) c.requires.held c.in-Place-dereference.ensures.held h c.bind.ensures (inr (e.first, e.second)) e.second_end
+    let e = ends_are v c.args.scratch.now log c.args.a c.args.b (target.Atom c.in-Atom.atom) (target.Place c.in-Place-dereference.place) h c.in-Atom.ensures c.in-Place-dereference.ensures.0 in
+    bind_outcome v c.args.scratch.now c.bind.new.scratch log c.args.a c.args.b c.in-Place-dereference.place c.in-Atom.atom c.bind.result (g.met.N.Nodes.lawful c.args.nodes.now) c.requires.held c.in-Place-dereference.ensures.0.held h c.bind.ensures (inr (e.first, e.second)) e.second_end
 
 pub returns-in-Atom-dereference-2-clause-steady : goal.returns-in-Atom-dereference-2-clause-steady
 returns-in-Atom-dereference-2-clause-steady g c =
-    bind_keeps (g.N.Nodes.shown c.args.nodes.now) c.args.scratch.now c.bind-in-Atom-dereference-2.new.scratch c.in-Place.first c.in-Atom-dereference-2.atom c.bind-in-Atom-dereference-2.result (g.met.N.Nodes.lawful c.args.nodes.now) c.requires.held c.requires.pairs_held c.in-Place.ensures.held c.bind-in-Atom-dereference-2.ensures
+    bind_keeps (g.N.Nodes.shown c.args.nodes.now) c.args.scratch.now c.bind-in-Atom-dereference-2.new.scratch c.in-Place.first c.in-Atom-dereference-2.atom c.bind-in-Atom-dereference-2.result (g.met.N.Nodes.lawful c.args.nodes.now) c.requires.held c.requires.pairs_held c.in-Place.ensures.0.held c.bind-in-Atom-dereference-2.ensures
 
 pub returns-in-Atom-dereference-2-clause-outcome : goal.returns-in-Atom-dereference-2-clause-outcome
 returns-in-Atom-dereference-2-clause-outcome g c log h =
     let v = g.N.Nodes.shown c.args.nodes.now in
-    let e = ends_are v c.args.scratch.now log c.args.a c.args.b (target.Place c.in-Place.first) (target.Atom c.in-Atom-dereference-2.atom) h c.in-Place.ensures c.in-Atom-dereference-2.ensures in
-    bind_outcome v c.args.scratch.now c.bind-in-Atom-dereference-2.new.scratch log c.args.a c.args.b c.in-Place.first c.in-Atom-dereference-2.atom c.bind-in-Atom-dereference-2.result (g.met.N.Nodes.lawful c.args.nodes.now) c.requires.held c.in-Place.ensures.held h c.bind-in-Atom-dereference-2.ensures (inl (e.first, e.second)) e.first_end
+    let e = ends_are v c.args.scratch.now log c.args.a c.args.b (target.Place c.in-Place.first) (target.Atom c.in-Atom-dereference-2.atom) h c.in-Place.ensures.0 c.in-Atom-dereference-2.ensures in
+    bind_outcome v c.args.scratch.now c.bind-in-Atom-dereference-2.new.scratch log c.args.a c.args.b c.in-Place.first c.in-Atom-dereference-2.atom c.bind-in-Atom-dereference-2.result (g.met.N.Nodes.lawful c.args.nodes.now) c.requires.held c.in-Place.ensures.0.held h c.bind-in-Atom-dereference-2.ensures (inl (e.first, e.second)) e.first_end
 
 pub returns-then-goes_first-clause-outcome : goal.returns-then-goes_first-clause-outcome
 returns-then-goes_first-clause-outcome g c log h =
@@ -84,7 +84,7 @@ returns-then-goes_first-clause-outcome g c log h =
     let s = g.met.N.Nodes.lawful c.args.nodes.now in
     let f = place_facts g (goal.at.returns-then-goes_first-clause-outcome g c).After-goes_first in
     let e = f.1 log h in
-    merge_step v c.args.scratch.now c.merge.new.scratch log c.args.a c.args.b _ _ h c.merge.ensures f.0 (key_below v s c.in-Place.first c.in-Place.ensures.held) (key_below v s c.in-Place-dereference-2.second c.in-Place-dereference-2.ensures.held) (inl (e.first, e.second)) e.first_end e.second_end
+    merge_step v c.args.scratch.now c.merge.new.scratch log c.args.a c.args.b _ _ h c.merge.ensures f.0 (key_below v s c.in-Place.first c.in-Place.ensures.0.held) (key_below v s c.in-Place-dereference-2.second c.in-Place-dereference-2.ensures.0.held) (inl (e.first, e.second)) e.first_end e.second_end
 
 pub returns-else-goes_first-clause-outcome : goal.returns-else-goes_first-clause-outcome
 returns-else-goes_first-clause-outcome g c log h =
@@ -92,4 +92,4 @@ returns-else-goes_first-clause-outcome g c log h =
     let s = g.met.N.Nodes.lawful c.args.nodes.now in
     let f = place_facts g (goal.at.returns-else-goes_first-clause-outcome g c).After-goes_first in
     let e = f.1 log h in
-    merge_step v c.args.scratch.now c.merge-else-goes_first.new.scratch log c.args.a c.args.b _ _ h c.merge-else-goes_first.ensures (λ q. f.0 (sym q)) (key_below v s c.in-Place-dereference-2.second c.in-Place-dereference-2.ensures.held) (key_below v s c.in-Place.first c.in-Place.ensures.held) (inr (e.first, e.second)) e.second_end e.first_end
+    merge_step v c.args.scratch.now c.merge-else-goes_first.new.scratch log c.args.a c.args.b _ _ h c.merge-else-goes_first.ensures (λ q. f.0 (sym q)) (key_below v s c.in-Place-dereference-2.second c.in-Place-dereference-2.ensures.0.held) (key_below v s c.in-Place.first c.in-Place.ensures.0.held) (inr (e.first, e.second)) e.second_end e.first_end

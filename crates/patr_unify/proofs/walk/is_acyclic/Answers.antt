@@ -27,7 +27,7 @@ enter-requires-clause-room g c =
     let w = c.args.scratch.now in
     let l = number_of v c.args.left.block c.args.left.offset in
     let i = c.requires.start in
-    root_room v w l i (key v c.in-Place.root) (root_is v w l i c.left_target.result (target.Place c.in-Place.root) (ap (value_at v) c.left_target.ensures) c.in-Place.ensures).0
+    root_room v w l i (key v c.in-Place.root) (root_is v w l i c.left_target.result (target.Place c.in-Place.root) (ap (value_at v) c.left_target.ensures) c.in-Place.ensures.0).0
 
 pub loop-top-init : goal.loop-top-init
 loop-top-init g c =
@@ -36,8 +36,8 @@ loop-top-init g c =
     let l = number_of v c.args.left.block c.args.left.offset in
     record {
       walked = λ i.
-          (let root = root_is v w l i c.left_target.result (target.Place c.in-Place.root) (ap (value_at v) c.left_target.ensures) c.in-Place.ensures in
-          walked_starts v w c.enter.new.scratch l i c.in-Place.root c.in-Place.ensures.held root.0 root.1 c.enter.ensures.visited c.enter.ensures.pushed c.enter.ensures.pairs c.enter.ensures.order);
+          (let root = root_is v w l i c.left_target.result (target.Place c.in-Place.root) (ap (value_at v) c.left_target.ensures) c.in-Place.ensures.0 in
+          walked_starts v w c.enter.new.scratch l i c.in-Place.root c.in-Place.ensures.0.held root.0 root.1 c.enter.ensures.visited c.enter.ensures.pushed c.enter.ensures.pairs c.enter.ensures.order);
       room = search rules;
     }
 

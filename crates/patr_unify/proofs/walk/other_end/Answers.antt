@@ -15,16 +15,16 @@ returns-then-same_visit g c =
     let v = g.N.Nodes.shown c.args.nodes.now in
     let w = c.args.scratch.now in
     let p = c.in-Place.place in
-    let visit = visit_is v w (g.met.N.Nodes.lawful c.args.nodes.now) p c.number.result c.visit-visit.result c.in-Place.ensures.held c.number.ensures c.visit-visit.ensures in
-    subst (IsDone v w) (sym (end_found v w c.args.target (target.Place p) c.requires.ending c.in-Place.ensures)) (sym visit ∙ c.same_visit.ensures.same c.if-same_visit.true)
+    let visit = visit_is v w (g.met.N.Nodes.lawful c.args.nodes.now) p c.in-Place.number c.visit-visit.result c.in-Place.ensures.0.held c.in-Place.ensures.1 c.visit-visit.ensures in
+    subst (IsDone v w) (sym (end_found v w c.args.target (target.Place p) c.requires.ending c.in-Place.ensures.0)) (sym visit ∙ c.same_visit.ensures.same c.if-same_visit.true)
 
 pub returns-else-same_visit : goal.returns-else-same_visit
 returns-else-same_visit g c =
     let v = g.N.Nodes.shown c.args.nodes.now in
     let w = c.args.scratch.now in
     let p = c.in-Place.place in
-    let visit = visit_is v w (g.met.N.Nodes.lawful c.args.nodes.now) p c.number.result c.visit-visit.result c.in-Place.ensures.held c.number.ensures c.visit-visit.ensures in (
-      c.in-Place.ensures.held,
-      end_found v w c.args.target (target.Place p) c.requires.ending c.in-Place.ensures,
+    let visit = visit_is v w (g.met.N.Nodes.lawful c.args.nodes.now) p c.in-Place.number c.visit-visit.result c.in-Place.ensures.0.held c.in-Place.ensures.1 c.visit-visit.ensures in (
+      c.in-Place.ensures.0.held,
+      end_found v w c.args.target (target.Place p) c.requires.ending c.in-Place.ensures.0,
       λ e. c.same_visit.ensures.apart c.if-same_visit.false (visit ∙ e),
     )
