@@ -1,29 +1,29 @@
--- A list of arcs cut at the nodes' ends.
+-- Lists cut at places that rise.
 use Rattle.std.proofs.Common.{◌≡◌, ◌⊎◌, inl, inr, ℕ, zero, suc, ◌+◌, ◌-◌, ◌<◌, ◌≤◌, ◌^◌, List, [], ◌∷◌, ◌++◌, length, length-append, length-drop, take, drop, get_or, refl, sym, ap, ◌∙◌, subst, arith}
-use Rattle.std.proofs.lemmas.List.{drop_at, drop-append-le, get_or_append_left, get_or_at, get_or_past, get_or_read, take-append-le, take_all}
+use Rattle.std.proofs.lemmas.List.{drop_at, drop-append-le, get_or_append_left, get_or_at, get_or_past, take-append-le, take_all}
 use Rattle.std.specs.List.{slice_range}
 use Rattle.std.specs.List.Sorted.{IsStrictlyIncreasing}
 use Rattle.patr_arena.specs.declared.value.Feature.{Feature}
 use Rattle.patr_arena.specs.Blocks.{AllBelow, IsBlock, attributes}
-use Rattle.patr_arena.specs.Cuts.{AreEnds, IsCut, begin, cut, last_end}
+use Rattle.patr_arena.specs.Cuts.{AreEnds, AreEndsOf, IsCut, begin, cut, last_end}
 
-pub cut_length : (fs : List Feature) (from : ℕ) (ends : List ℕ) → length (cut fs from ends) ≡ length ends
+pub cut_length : {X : Type 0} (fs : List X) (from : ℕ) (ends : List ℕ) → length (cut fs from ends) ≡ length ends
 cut_length fs from [] = refl
 cut_length fs from (end ∷ ends) = ap suc (cut_length fs end ends)
 
-order_last : (from : ℕ) (ends : List ℕ) → AreEnds from ends → from ≤ last_end from ends
+pub order_last : (from : ℕ) (ends : List ℕ) → AreEnds from ends → from ≤ last_end from ends
 order_last from [] o = omega arith
 order_last from (end ∷ ends) o = let rest = order_last end ends o.1 in let first = o.0 in omega (arith, rest, first)
 
-range_front : (fs more : List Feature) (from end : ℕ) → end ≤ length fs → from ≤ end → slice_range (fs ++ more) from end ≡ slice_range fs from end
+range_front : {X : Type 0} (fs more : List X) (from end : ℕ) → end ≤ length fs → from ≤ end → slice_range (fs ++ more) from end ≡ slice_range fs from end
 range_front fs more from end m o =
     ap (take (end - from)) (drop-append-le from fs more (omega (arith, m, o)))
     ∙ take-append-le (end - from) (drop from fs) more (let size = length-drop from fs in omega (arith, size, m, o))
 
-range_behind : (fs more : List Feature) → slice_range (fs ++ more) (length fs) (length (fs ++ more)) ≡ more
+range_behind : {X : Type 0} (fs more : List X) → slice_range (fs ++ more) (length fs) (length (fs ++ more)) ≡ more
 range_behind fs more = ap (take (length (fs ++ more) - length fs)) (drop_at fs more (length fs) refl) ∙ take_all (length (fs ++ more) - length fs) more (let all = length-append fs more in omega (arith, all))
 
-pub cut_push : (fs more : List Feature) (from : ℕ) (ends : List ℕ) → AreEnds from ends → last_end from ends ≡ length fs
+pub cut_push : {X : Type 0} (fs more : List X) (from : ℕ) (ends : List ℕ) → AreEnds from ends → last_end from ends ≡ length fs
     → cut (fs ++ more) from (ends ++ length (fs ++ more) ∷ []) ≡ cut fs from ends ++ more ∷ []
 cut_push fs more from [] o e = ap (λ xs. xs ∷ []) (ap (λ k. slice_range (fs ++ more) k (length (fs ++ more))) e ∙ range_behind fs more)
 cut_push fs more from (end ∷ ends) o e =
@@ -38,6 +38,13 @@ ends_push from (first ∷ ends) end o m = (o.0, ends_push first ends end o.1 m)
 pub last_push : (from : ℕ) (ends : List ℕ) (end : ℕ) → last_end from (ends ++ end ∷ []) ≡ end
 last_push from [] end = refl
 last_push from (first ∷ ends) end = last_push first ends end
+
+-- a list with one cut more
+pub ends_more : {X : Type 0} (fs more : List X) (ends : List ℕ) → AreEndsOf fs ends → AreEndsOf (fs ++ more) (ends ++ length (fs ++ more) ∷ [])
+ends_more fs more ends e = record {
+  order = ends_push 0 ends (length (fs ++ more)) e.order (let last = e.last in let all = length-append fs more in omega (arith, last, all));
+  last = last_push 0 ends (length (fs ++ more));
+}
 
 -- one node more in a block
 pub block_push : (nodes : List (List Feature)) (arcs : List Feature) → IsBlock nodes → IsStrictlyIncreasing (attributes arcs) → AllBelow (length nodes) arcs → IsBlock (nodes ++ arcs ∷ [])
@@ -68,16 +75,15 @@ pub cut_more : (fs more : List Feature) (ends : List ℕ) → IsCut fs ends → 
     → IsCut (fs ++ more) (ends ++ length (fs ++ more) ∷ [])
 cut_more fs more ends c few rising below = record {
   few = let all = length-append ends (length (fs ++ more) ∷ []) in omega (arith, all, few);
-  order = ends_push 0 ends (length (fs ++ more)) c.order (let last = c.last in let all = length-append fs more in omega (arith, last, all));
-  last = last_push 0 ends (length (fs ++ more));
-  block = subst IsBlock (sym (cut_push fs more 0 ends c.order c.last)) (block_push (cut fs 0 ends) more c.block rising below);
+  cuts = ends_more fs more ends c.cuts;
+  block = subst IsBlock (sym (cut_push fs more 0 ends c.cuts.order c.cuts.last)) (block_push (cut fs 0 ends) more c.block rising below);
 }
 
-begin_next : (from end : ℕ) (ends : List ℕ) (n : ℕ) → begin from (end ∷ ends) (suc n) ≡ begin end ends n
+pub begin_next : (from end : ℕ) (ends : List ℕ) (n : ℕ) → begin from (end ∷ ends) (suc n) ≡ begin end ends n
 begin_next from end ends zero = refl
 begin_next from end ends (suc n) = refl
 
-pub cut_at : (fs : List Feature) (from : ℕ) (ends : List ℕ) (n : ℕ) → n < length ends → get_or (cut fs from ends) n [] ≡ slice_range fs (begin from ends n) (get_or ends n 0)
+pub cut_at : {X : Type 0} (fs : List X) (from : ℕ) (ends : List ℕ) (n : ℕ) → n < length ends → get_or (cut fs from ends) n [] ≡ slice_range fs (begin from ends n) (get_or ends n 0)
 cut_at fs from [] n h = absurd (omega (arith, h))
 cut_at fs from (end ∷ ends) zero h = refl
 cut_at fs from (end ∷ ends) (suc n) h = cut_at fs end ends n (omega (arith, h)) ∙ ap (λ k. slice_range fs k (get_or ends n 0)) (sym (begin_next from end ends n))
@@ -92,20 +98,11 @@ end_le from [] n o h = absurd (omega (arith, h))
 end_le from (end ∷ ends) zero o h = order_last end ends o.1
 end_le from (end ∷ ends) (suc n) o h = end_le end ends n o.1 (omega (arith, h))
 
--- what is read of a node by where its arcs begin and end
-pub cut_read : (fs : List Feature) (ends : List ℕ) (nodes : List (List Feature)) (offset start end : ℕ) (slice : List ℕ) → IsCut fs ends → cut fs 0 ends ≡ nodes → offset < length nodes
-    → slice ≡ ends → start ≡ begin 0 slice offset → end ≡ get_or ends offset end → (start ≤ end) × (end ≤ length fs) × (slice_range fs start end ≡ get_or nodes offset [])
-cut_read fs ends nodes offset start end slice c e h d b r = (
-  let order = begin_le 0 ends offset c.order inside in omega (arith, order, s, read),
-  let most = end_le 0 ends offset c.order inside in let whole = c.last in omega (arith, most, whole, read),
-  ap (slice_range fs start) read ∙ (ap (λ n. slice_range fs n (get_or ends offset 0)) s ∙ (sym (cut_at fs 0 ends offset inside) ∙ ap (λ ns. get_or ns offset []) e)),
+-- a piece by where it begins and ends
+pub cut_read : {X : Type 0} (fs : List X) (ends : List ℕ) (n start : ℕ) → AreEndsOf fs ends → n < length ends → start ≡ begin 0 ends n
+    → (start ≤ get_or ends n 0) × (get_or ends n 0 ≤ length fs) × (slice_range fs start (get_or ends n 0) ≡ get_or (cut fs 0 ends) n [])
+cut_read fs ends n start c inside b = (
+  let order = begin_le 0 ends n c.order inside in omega (arith, order, b),
+  let most = end_le 0 ends n c.order inside in let whole = c.last in omega (arith, most, whole),
+  ap (λ k. slice_range fs k (get_or ends n 0)) b ∙ sym (cut_at fs 0 ends n inside),
 )
-  where
-    inside : offset < length ends
-    inside = let size = cut_length fs 0 ends in let same = ap length e in omega (arith, h, size, same)
-
-    read : end ≡ get_or ends offset 0
-    read = get_or_read ends offset end inside r 0
-
-    s : start ≡ begin 0 ends offset
-    s = b ∙ ap (λ es. begin 0 es offset) d

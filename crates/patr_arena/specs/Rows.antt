@@ -1,7 +1,8 @@
 -- Blocks one behind another, and what stands before them.
-use Rattle.std.specs.Prelude.{◌≡◌, ℕ, ◌+◌, ◌*◌, ◌^◌, ◌<◌, ◌≤◌, List, [], ◌∷◌, ◌++◌, length, slice_index, slice_index_or, take}
+use Rattle.std.specs.Prelude.{◌≡◌, ℕ, ◌+◌, ◌*◌, ◌^◌, ◌<◌, ◌≤◌, List, [], ◌∷◌, ◌++◌, length, slice_index_or, take}
 use Rattle.std.specs.List.{sum_by}
 use Rattle.patr_arena.specs.declared.value.Feature.{Feature}
+use Rattle.patr_arena.specs.Cuts.{AreEndsOf, cut}
 
 -- blocks, and how many blocks and nodes stand before them
 pub record Row : Type 0 where
@@ -33,10 +34,27 @@ HasNode row k offset = (k < length row.blocks) × (offset < length (slice_index_
 abbrev pub appended : Row → List (List Feature) → Row
 appended row block = record { first_block = row.first_block; first_node = row.first_node; blocks = row.blocks ++ block ∷ [] }
 
--- how a row is kept: where each block starts, how many nodes there are, and that their numbers fit
-pub record IsRow (row : Row) (starts : List ℕ) (nodes : ℕ) : Type 0 where
-  pub each : length starts ≡ length row.blocks
-  pub begins : (k : ℕ) → k < length row.blocks → slice_index starts k ≡ start row k
-  pub whole : nodes ≡ nodes_of row
+-- the blocks with these arcs, whose nodes' arcs end there
+abbrev pub blocks_at : List (List Feature) → List (List ℕ) → List (List (List Feature))
+blocks_at [] ends = []
+blocks_at (fs ∷ fss) [] = []
+blocks_at (fs ∷ fss) (es ∷ ess) = cut fs 0 es ∷ blocks_at fss ess
+
+-- the blocks whose arcs and whose nodes' ends stand one behind another, cut where each block ends
+abbrev pub blocks_in : List Feature → List ℕ → List ℕ → List ℕ → List (List (List Feature))
+blocks_in features ends arc_ends node_ends = blocks_at (cut features 0 arc_ends) (cut ends 0 node_ends)
+
+-- in each block the nodes' ends are those of its arcs
+abbrev pub AllCut : List (List Feature) → List (List ℕ) → Type 0
+AllCut [] ess = Unit {0}
+AllCut (fs ∷ fss) [] = Unit {0}
+AllCut (fs ∷ fss) (es ∷ ess) = AreEndsOf fs es × AllCut fss ess
+
+-- how a row is kept: where each block ends, and that the numbers of blocks and nodes fit
+pub record IsRow (row : Row) (features : List Feature) (ends : List ℕ) (arc_ends : List ℕ) (node_ends : List ℕ) : Type 0 where
+  pub each : length arc_ends ≡ length node_ends
+  pub arcs : AreEndsOf features arc_ends
+  pub nodes : AreEndsOf ends node_ends
+  pub cuts : AllCut (cut features 0 arc_ends) (cut ends 0 node_ends)
   pub few_blocks : blocks_of row < 2 ^ 32
-  pub few_nodes : nodes ≤ blocks_of row * 2 ^ 32
+  pub few_nodes : nodes_of row ≤ blocks_of row * 2 ^ 32
