@@ -36,11 +36,6 @@ pub record IsCut (features : List Feature) (ends : List ℕ) : Type 0 where
 
 -- a block's arcs and its nodes' ends were put behind others
 pub record IsAppended (block : List (List Feature)) (features : List Feature) (ends : List ℕ) (new_features : List Feature) (new_ends : List ℕ) : Type 0 where
-  pub arcs : List Feature
-  pub bounds : List ℕ
-  pub features_are : new_features ≡ features ++ arcs
-  pub ends_are : new_ends ≡ ends ++ bounds
-  pub cuts : AreEndsOf arcs bounds
-  pub block_is : cut arcs 0 bounds ≡ block
-  pub few_arcs : length new_features < 2 ^ 32
-  pub few_ends : length new_ends < 2 ^ 32
+  pub nodes : cut new_features 0 new_ends ≡ cut features 0 ends ++ block
+  pub cuts : AreEndsOf new_features new_ends
+  pub few : length new_ends < 2 ^ 32

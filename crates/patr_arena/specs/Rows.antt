@@ -34,27 +34,14 @@ HasNode row k offset = (k < length row.blocks) × (offset < length (slice_index_
 abbrev pub appended : Row → List (List Feature) → Row
 appended row block = record { first_block = row.first_block; first_node = row.first_node; blocks = row.blocks ++ block ∷ [] }
 
--- the blocks with these arcs, whose nodes' arcs end there
-abbrev pub blocks_at : List (List Feature) → List (List ℕ) → List (List (List Feature))
-blocks_at [] ends = []
-blocks_at (fs ∷ fss) [] = []
-blocks_at (fs ∷ fss) (es ∷ ess) = cut fs 0 es ∷ blocks_at fss ess
+-- the blocks whose nodes are cut out of these arcs, and which are cut out of these nodes
+abbrev pub blocks_in : List Feature → List ℕ → List ℕ → List (List (List Feature))
+blocks_in features ends node_ends = cut (cut features 0 ends) 0 node_ends
 
--- the blocks whose arcs and whose nodes' ends stand one behind another, cut where each block ends
-abbrev pub blocks_in : List Feature → List ℕ → List ℕ → List ℕ → List (List (List Feature))
-blocks_in features ends arc_ends node_ends = blocks_at (cut features 0 arc_ends) (cut ends 0 node_ends)
-
--- in each block the nodes' ends are those of its arcs
-abbrev pub AllCut : List (List Feature) → List (List ℕ) → Type 0
-AllCut [] ess = Unit {0}
-AllCut (fs ∷ fss) [] = Unit {0}
-AllCut (fs ∷ fss) (es ∷ ess) = AreEndsOf fs es × AllCut fss ess
-
--- how a row is kept: where each block ends, and that the numbers of blocks and nodes fit
-pub record IsRow (row : Row) (features : List Feature) (ends : List ℕ) (arc_ends : List ℕ) (node_ends : List ℕ) : Type 0 where
-  pub each : length arc_ends ≡ length node_ends
-  pub arcs : AreEndsOf features arc_ends
-  pub nodes : AreEndsOf ends node_ends
-  pub cuts : AllCut (cut features 0 arc_ends) (cut ends 0 node_ends)
+-- how a row is kept: where each node and each block ends, and that the numbers of blocks and nodes fit
+pub record IsRow (row : Row) (features : List Feature) (ends : List ℕ) (node_ends : List ℕ) : Type 0 where
+  pub blocks_are : row.blocks ≡ blocks_in features ends node_ends
+  pub arcs : AreEndsOf features ends
+  pub nodes : AreEndsOf (cut features 0 ends) node_ends
   pub few_blocks : blocks_of row < 2 ^ 32
   pub few_nodes : nodes_of row ≤ blocks_of row * 2 ^ 32

@@ -95,21 +95,22 @@ impl Block {
         features: &mut Vec<Feature>,
         ends: &mut Vec<u32>,
     ) -> Result<(), Memory>
+        requires { AreEndsOf features.old.items ends.old.items }
         ensures ok { OnOk result (IsAppended self.now features.old.items ends.old.items features.new.items ends.new.items) }
         ensures arcs { OnErr result (features.new.items ≡ features.old.items) }
         ensures ends { OnErr result (ends.new.items ≡ ends.old.items) }
     {
-        let arcs = features.len();
-        if arcs + self.features.len() > u32::MAX as usize
+        let before = features.len();
+        if before + self.features.len() > u32::MAX as usize
             || ends.len() + self.ends.len() > u32::MAX as usize
         {
             return Err(AllocError);
         }
+        ends.reserve(self.ends.len())?;
         features.extend_from_slice(&self.features)?;
-        let Ok(()) = ends.extend_from_slice(&self.ends) else {
-            features.truncate(arcs);
-            return Err(AllocError);
-        };
+        for end in &self.ends {
+            ends.push_reserved(before as u32 + *end);
+        }
         Ok(())
     }
 }

@@ -7,7 +7,7 @@ use crate::value::Feature;
 use std::alloc::Global;
 use std::marker::Model;
 
-/// Blocks one behind another, all in four lists, so that a small block takes little memory. Other blocks may stand
+/// Blocks one behind another, all in three lists, so that a small block takes little memory. Other blocks may stand
 /// before them.
 #[derive(Drop)]
 pub(crate) struct BlockRow {
@@ -15,10 +15,9 @@ pub(crate) struct BlockRow {
     first_node: u64,
     /// The arcs of all nodes, one block's behind the other's.
     features: Vec<Feature>,
-    /// Where the arcs of each node end, counted from the first of its block.
+    /// Where the arcs of each node end, counted from the first arc of all.
     ends: Vec<u32>,
-    /// Where each block ends, in arcs and in nodes.
-    arc_ends: Vec<u32>,
+    /// Where the nodes of each block end.
     node_ends: Vec<u32>,
 }
 
@@ -27,9 +26,9 @@ impl Model for BlockRow {
 
     ghost Value = { Row };
 
-    ghost view = { λ row. record { first_block = row.first_block; first_node = row.first_node; blocks = blocks_in row.features.items row.ends.items row.arc_ends.items row.node_ends.items } };
+    ghost view = { λ row. record { first_block = row.first_block; first_node = row.first_node; blocks = blocks_in row.features.items row.ends.items row.node_ends.items } };
 
-    ghost invariant = { λ row. IsRow (record { first_block = row.first_block; first_node = row.first_node; blocks = blocks_in row.features.items row.ends.items row.arc_ends.items row.node_ends.items }) row.features.items row.ends.items row.arc_ends.items row.node_ends.items };
+    ghost invariant = { λ row. IsRow (record { first_block = row.first_block; first_node = row.first_node; blocks = blocks_in row.features.items row.ends.items row.node_ends.items }) row.features.items row.ends.items row.node_ends.items };
 }
 
 impl BlockRow {
@@ -42,7 +41,6 @@ impl BlockRow {
             first_node: 0,
             features: Vec::new(alloc),
             ends: Vec::new(alloc),
-            arc_ends: Vec::new(alloc),
             node_ends: Vec::new(alloc),
         }
     }
@@ -56,7 +54,6 @@ impl BlockRow {
             first_node: self.nodes(),
             features: Vec::new(alloc),
             ends: Vec::new(alloc),
-            arc_ends: Vec::new(alloc),
             node_ends: Vec::new(alloc),
         }
     }
@@ -67,16 +64,12 @@ impl BlockRow {
         ensures { MatchResult result (λ number. (number ≡ blocks_of self.old) × (self.new ≡ appended self.old block)) (λ back. (back ≡ block) × (self.new ≡ self.old)) }
     {
         let number = self.blocks();
-        if number == u32::MAX
-            || self.arc_ends.reserve(1).is_err()
-            || self.node_ends.reserve(1).is_err()
-        {
+        if number == u32::MAX || self.node_ends.reserve(1).is_err() {
             return Err(block);
         }
         let Ok(()) = block.append_to(&mut self.features, &mut self.ends) else {
             return Err(block);
         };
-        self.arc_ends.push_reserved(self.features.len() as u32);
         self.node_ends.push_reserved(self.ends.len() as u32);
         Ok(number)
     }
@@ -108,9 +101,7 @@ impl BlockRow {
         requires { HasNode self.now k offset }
         ensures { result.now ≡ node_in self.now k offset }
     {
-        let features = piece(&self.features, &self.arc_ends, k as usize);
-        let ends = piece(&self.ends, &self.node_ends, k as usize);
-        piece(features, ends, offset as usize)
+        piece(&self.features, &self.ends, self.place(k, offset))
     }
 
     /// The place of the node at this offset of the block `k` of the row, those before the row counted.
@@ -118,7 +109,14 @@ impl BlockRow {
         requires { HasNode self.now k offset }
         ensures { result ≡ start self.now k + offset }
     {
-        let start = self.first_node + u64::from(start_of(&self.node_ends, k as usize));
-        start + u64::from(offset)
+        self.first_node + self.place(k, offset) as u64
+    }
+
+    /// The place of the node at this offset of the block `k` of the row, of the row's own nodes alone.
+    fn place(&self, k: u32, offset: u32) -> usize
+        requires { HasNode self.now k offset }
+        ensures { self.now.first_node + result ≡ start self.now k + offset }
+    {
+        start_of(&self.node_ends, k as usize) as usize + offset as usize
     }
 }
