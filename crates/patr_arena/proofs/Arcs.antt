@@ -83,7 +83,7 @@ found_nowhere (f ∷ fs) a d none = ap (λ t. cond t (Some f.to) (feature_to fs 
     other true q = absurd (none 0 (omega arith) (eqb-true f.attribute.0 a q))
     other false q = q
 
--- what a binary search by attribute finds
+-- what is found of arcs whose attributes rise
 module _ (fs : List Feature) (rising : IsStrictlyIncreasing (attributes fs)) (a : ℕ) where
   rise : (i j : ℕ) → i < j → j < length fs → (get_or fs i nowhere).attribute.0 < (get_or fs j nowhere).attribute.0
   rise i j h m =
@@ -97,11 +97,15 @@ module _ (fs : List Feature) (rising : IsStrictlyIncreasing (attributes fs)) (a 
       let keys : (get_or fs i nowhere).attribute.0 ≤ (get_or fs j nowhere).attribute.0 = grind (arith, rise i j, λ (same : i ≡ j). ap (λ k. (get_or fs k nowhere).attribute.0) same) in
       grind (arith, nat_tests))
 
+  -- the arc at a place
+  pub found_at : (k : ℕ) → k < length fs → (get_or fs k nowhere).attribute.0 ≡ a → feature_to fs a ≡ Some (get_or fs k nowhere).to
+  found_at k m here = found_there fs a k nowhere m here (λ j l. let below = rise j k l m in omega (arith, below, here))
+
+  -- what a binary search by attribute finds
   pub searched : (r : Result ℕ ℕ) → IsSearchInRange r (length fs) → IsBinarySearchResult (λ f. nat_cmp f.attribute.0 a) fs r
       → MatchResult r (λ k. (d : Feature) → feature_to fs a ≡ Some (get_or fs k d).to) (λ k. feature_to fs a ≡ None)
   searched (Ok k) m equal = λ d. subst (λ (f : Feature). feature_to fs a ≡ Some f.to) (get_or_default fs k nowhere d m)
-      (let here = ranked (get_or fs k nowhere).attribute.0 a _ (sym (equal nowhere)) in
-      found_there fs a k nowhere m here (λ j l. let below = rise j k l m in omega (arith, below, here)))
+      (found_at k m (ranked (get_or fs k nowhere).attribute.0 a _ (sym (equal nowhere))))
   searched (Err k) m parted = found_nowhere fs a nowhere (λ j l same.
       let cut = parted comparisons_rise in
       absurd (apart j l same (λ h. ranked (get_or fs j nowhere).attribute.0 a _ (sym (cut.0 j nowhere (omega arith) h))) (λ h. ranked (get_or fs j nowhere).attribute.0 a _ (sym (cut.1 j nowhere h l)))))

@@ -1,43 +1,86 @@
--- A list of arcs cut at the nodes' ends.
-use Rattle.std.proofs.Common.{◌≡◌, ◌⊎◌, inl, inr, ℕ, zero, suc, ◌+◌, ◌-◌, ◌<◌, ◌≤◌, ◌^◌, List, [], ◌∷◌, ◌++◌, length, length-append, length-drop, take, drop, get_or, refl, sym, ap, ◌∙◌, subst, arith}
-use Rattle.std.proofs.lemmas.List.{drop_at, drop-append-le, get_or_append_left, get_or_at, get_or_past, get_or_read, take-append-le, take_all}
-use Rattle.std.specs.List.{slice_range}
+-- Lists cut at places that rise.
+use Rattle.std.proofs.Common.{◌≡◌, ◌⊎◌, inl, inr, ℕ, zero, suc, ◌+◌, ◌-◌, ◌<◌, ◌≤◌, ◌^◌, List, [], ◌∷◌, ◌++◌, length, length-append, length-drop, length-take-le, map, take, drop, get_or, refl, sym, ap, ◌∙◌, subst, arith}
+use Rattle.std.proofs.lemmas.List.{drop-append-le, get_or-drop, get_or-take, get_or_append_left, get_or_at, get_or_past, take-append-le, take_all}
+use Rattle.std.proofs.lemmas.List.Sums.{sum_by-cons}
+use Rattle.std.proofs.Math.Seq.{drop-append-add}
+use Rattle.std.specs.List.{slice_range, sum_by}
 use Rattle.std.specs.List.Sorted.{IsStrictlyIncreasing}
 use Rattle.patr_arena.specs.declared.value.Feature.{Feature}
 use Rattle.patr_arena.specs.Blocks.{AllBelow, IsBlock, attributes}
-use Rattle.patr_arena.specs.Cuts.{AreEnds, IsCut, begin, cut, last_end}
+use Rattle.patr_arena.specs.Cuts.{AreEnds, AreEndsOf, IsCut, begin, cut, last_end}
 
-pub cut_length : (fs : List Feature) (from : ℕ) (ends : List ℕ) → length (cut fs from ends) ≡ length ends
+pub cut_length : {X : Type 0} (fs : List X) (from : ℕ) (ends : List ℕ) → length (cut fs from ends) ≡ length ends
 cut_length fs from [] = refl
 cut_length fs from (end ∷ ends) = ap suc (cut_length fs end ends)
 
-order_last : (from : ℕ) (ends : List ℕ) → AreEnds from ends → from ≤ last_end from ends
+pub order_last : (from : ℕ) (ends : List ℕ) → AreEnds from ends → from ≤ last_end from ends
 order_last from [] o = omega arith
 order_last from (end ∷ ends) o = let rest = order_last end ends o.1 in let first = o.0 in omega (arith, rest, first)
 
-range_front : (fs more : List Feature) (from end : ℕ) → end ≤ length fs → from ≤ end → slice_range (fs ++ more) from end ≡ slice_range fs from end
+range_front : {X : Type 0} (fs more : List X) (from end : ℕ) → end ≤ length fs → from ≤ end → slice_range (fs ++ more) from end ≡ slice_range fs from end
 range_front fs more from end m o =
     ap (take (end - from)) (drop-append-le from fs more (omega (arith, m, o)))
     ∙ take-append-le (end - from) (drop from fs) more (let size = length-drop from fs in omega (arith, size, m, o))
 
-range_behind : (fs more : List Feature) → slice_range (fs ++ more) (length fs) (length (fs ++ more)) ≡ more
-range_behind fs more = ap (take (length (fs ++ more) - length fs)) (drop_at fs more (length fs) refl) ∙ take_all (length (fs ++ more) - length fs) more (let all = length-append fs more in omega (arith, all))
+range_behind : {X : Type 0} (fs more : List X) (from end : ℕ) → slice_range (fs ++ more) (length fs + from) (length fs + end) ≡ slice_range more from end
+range_behind fs more from end = ap (take (length fs + end - (length fs + from))) (drop-append-add fs more from) ∙ ap (λ n. take n (drop from more)) (omega arith)
 
-pub cut_push : (fs more : List Feature) (from : ℕ) (ends : List ℕ) → AreEnds from ends → last_end from ends ≡ length fs
-    → cut (fs ++ more) from (ends ++ length (fs ++ more) ∷ []) ≡ cut fs from ends ++ more ∷ []
-cut_push fs more from [] o e = ap (λ xs. xs ∷ []) (ap (λ k. slice_range (fs ++ more) k (length (fs ++ more))) e ∙ range_behind fs more)
-cut_push fs more from (end ∷ ends) o e =
+-- ends counted from an earlier place
+abbrev pub shifted : ℕ → List ℕ → List ℕ
+shifted n ends = map (λ end. n + end) ends
+
+cut_behind : {X : Type 0} (fs more : List X) (from : ℕ) (ends : List ℕ) → cut (fs ++ more) (length fs + from) (shifted (length fs) ends) ≡ cut more from ends
+cut_behind fs more from [] = refl
+cut_behind fs more from (end ∷ ends) =
+    ap (λ xs. xs ∷ cut (fs ++ more) (length fs + end) (shifted (length fs) ends)) (range_behind fs more from end) ∙ ap (λ xs. slice_range more from end ∷ xs) (cut_behind fs more end ends)
+
+pub cut_append : {X : Type 0} (fs more : List X) (from : ℕ) (ends bounds : List ℕ) → AreEnds from ends → last_end from ends ≡ length fs
+    → cut (fs ++ more) from (ends ++ shifted (length fs) bounds) ≡ cut fs from ends ++ cut more 0 bounds
+cut_append fs more from [] bounds o e = ap (λ k. cut (fs ++ more) k (shifted (length fs) bounds)) (let start : from ≡ length fs + 0 = omega (arith, e) in start) ∙ cut_behind fs more 0 bounds
+cut_append fs more from (end ∷ ends) bounds o e =
     let last = order_last end ends o.1 in
-    ap (λ xs. xs ∷ cut (fs ++ more) end (ends ++ length (fs ++ more) ∷ [])) (range_front fs more from end (omega (arith, last, e)) o.0)
-    ∙ ap (λ xs. slice_range fs from end ∷ xs) (cut_push fs more end ends o.1 e)
+    ap (λ xs. xs ∷ cut (fs ++ more) end (ends ++ shifted (length fs) bounds)) (range_front fs more from end (omega (arith, last, e)) o.0)
+    ∙ ap (λ xs. slice_range fs from end ∷ xs) (cut_append fs more end ends bounds o.1 e)
 
-pub ends_push : (from : ℕ) (ends : List ℕ) (end : ℕ) → AreEnds from ends → last_end from ends ≤ end → AreEnds from (ends ++ end ∷ [])
-ends_push from [] end o m = (m, tt)
-ends_push from (first ∷ ends) end o m = (o.0, ends_push first ends end o.1 m)
+pub cut_push : {X : Type 0} (fs more : List X) (from : ℕ) (ends : List ℕ) → AreEnds from ends → last_end from ends ≡ length fs
+    → cut (fs ++ more) from (ends ++ length (fs ++ more) ∷ []) ≡ cut fs from ends ++ more ∷ []
+cut_push fs more from ends o e =
+    ap (λ n. cut (fs ++ more) from (ends ++ n ∷ [])) (length-append fs more)
+    ∙ (cut_append fs more from ends (length more ∷ []) o e ∙ ap (λ xs. cut fs from ends ++ xs ∷ []) (take_all (length more - 0) more (omega arith)))
 
-pub last_push : (from : ℕ) (ends : List ℕ) (end : ℕ) → last_end from (ends ++ end ∷ []) ≡ end
-last_push from [] end = refl
-last_push from (first ∷ ends) end = last_push first ends end
+ends_append : (from : ℕ) (ends more : List ℕ) → AreEnds from ends → AreEnds (last_end from ends) more → AreEnds from (ends ++ more)
+ends_append from [] more o m = m
+ends_append from (end ∷ ends) more o m = (o.0, ends_append end ends more o.1 m)
+
+last_append : (from : ℕ) (ends more : List ℕ) → last_end from (ends ++ more) ≡ last_end (last_end from ends) more
+last_append from [] more = refl
+last_append from (end ∷ ends) more = last_append end ends more
+
+shifted_order : (n from : ℕ) (ends : List ℕ) → AreEnds from ends → AreEnds (n + from) (shifted n ends)
+shifted_order n from [] o = tt
+shifted_order n from (end ∷ ends) o = (let first = o.0 in omega (arith, first), shifted_order n end ends o.1)
+
+shifted_last : (n from : ℕ) (ends : List ℕ) → last_end (n + from) (shifted n ends) ≡ n + last_end from ends
+shifted_last n from [] = refl
+shifted_last n from (end ∷ ends) = shifted_last n end ends
+
+-- the ends of two lists, one behind the other
+pub ends_join : {X : Type 0} (fs more : List X) (ends bounds : List ℕ) → AreEndsOf fs ends → AreEndsOf more bounds → AreEndsOf (fs ++ more) (ends ++ shifted (length fs) bounds)
+ends_join fs more ends bounds e b =
+    let behind = shifted (length fs) bounds in
+    let start : length fs + 0 ≡ last_end 0 ends = (let last = e.last in omega (arith, last)) in
+    let last = shifted_last (length fs) 0 bounds in
+    let same = b.last in
+    let all = length-append fs more in
+    record {
+      order = ends_append 0 ends behind e.order (subst (λ k. AreEnds k behind) start (shifted_order (length fs) 0 bounds b.order));
+      last = last_append 0 ends behind ∙ (ap (λ k. last_end k behind) (sym start) ∙ omega (arith, last, same, all));
+    }
+
+-- a list with one cut more
+pub ends_more : {X : Type 0} (fs more : List X) (ends : List ℕ) → AreEndsOf fs ends → AreEndsOf (fs ++ more) (ends ++ length (fs ++ more) ∷ [])
+ends_more fs more ends e =
+    subst (λ n. AreEndsOf (fs ++ more) (ends ++ n ∷ [])) (sym (length-append fs more)) (ends_join fs more ends (length more ∷ []) e (record { order = (omega arith, tt); last = refl }))
 
 -- one node more in a block
 pub block_push : (nodes : List (List Feature)) (arcs : List Feature) → IsBlock nodes → IsStrictlyIncreasing (attributes arcs) → AllBelow (length nodes) arcs → IsBlock (nodes ++ arcs ∷ [])
@@ -68,16 +111,15 @@ pub cut_more : (fs more : List Feature) (ends : List ℕ) → IsCut fs ends → 
     → IsCut (fs ++ more) (ends ++ length (fs ++ more) ∷ [])
 cut_more fs more ends c few rising below = record {
   few = let all = length-append ends (length (fs ++ more) ∷ []) in omega (arith, all, few);
-  order = ends_push 0 ends (length (fs ++ more)) c.order (let last = c.last in let all = length-append fs more in omega (arith, last, all));
-  last = last_push 0 ends (length (fs ++ more));
-  block = subst IsBlock (sym (cut_push fs more 0 ends c.order c.last)) (block_push (cut fs 0 ends) more c.block rising below);
+  cuts = ends_more fs more ends c.cuts;
+  block = subst IsBlock (sym (cut_push fs more 0 ends c.cuts.order c.cuts.last)) (block_push (cut fs 0 ends) more c.block rising below);
 }
 
-begin_next : (from end : ℕ) (ends : List ℕ) (n : ℕ) → begin from (end ∷ ends) (suc n) ≡ begin end ends n
+pub begin_next : (from end : ℕ) (ends : List ℕ) (n : ℕ) → begin from (end ∷ ends) (suc n) ≡ begin end ends n
 begin_next from end ends zero = refl
 begin_next from end ends (suc n) = refl
 
-pub cut_at : (fs : List Feature) (from : ℕ) (ends : List ℕ) (n : ℕ) → n < length ends → get_or (cut fs from ends) n [] ≡ slice_range fs (begin from ends n) (get_or ends n 0)
+pub cut_at : {X : Type 0} (fs : List X) (from : ℕ) (ends : List ℕ) (n : ℕ) → n < length ends → get_or (cut fs from ends) n [] ≡ slice_range fs (begin from ends n) (get_or ends n 0)
 cut_at fs from [] n h = absurd (omega (arith, h))
 cut_at fs from (end ∷ ends) zero h = refl
 cut_at fs from (end ∷ ends) (suc n) h = cut_at fs end ends n (omega (arith, h)) ∙ ap (λ k. slice_range fs k (get_or ends n 0)) (sym (begin_next from end ends n))
@@ -92,20 +134,48 @@ end_le from [] n o h = absurd (omega (arith, h))
 end_le from (end ∷ ends) zero o h = order_last end ends o.1
 end_le from (end ∷ ends) (suc n) o h = end_le end ends n o.1 (omega (arith, h))
 
--- what is read of a node by where its arcs begin and end
-pub cut_read : (fs : List Feature) (ends : List ℕ) (nodes : List (List Feature)) (offset start end : ℕ) (slice : List ℕ) → IsCut fs ends → cut fs 0 ends ≡ nodes → offset < length nodes
-    → slice ≡ ends → start ≡ begin 0 slice offset → end ≡ get_or ends offset end → (start ≤ end) × (end ≤ length fs) × (slice_range fs start end ≡ get_or nodes offset [])
-cut_read fs ends nodes offset start end slice c e h d b r = (
-  let order = begin_le 0 ends offset c.order inside in omega (arith, order, s, read),
-  let most = end_le 0 ends offset c.order inside in let whole = c.last in omega (arith, most, whole, read),
-  ap (slice_range fs start) read ∙ (ap (λ n. slice_range fs n (get_or ends offset 0)) s ∙ (sym (cut_at fs 0 ends offset inside) ∙ ap (λ ns. get_or ns offset []) e)),
+-- a piece by where it begins and ends
+pub cut_read : {X : Type 0} (fs : List X) (ends : List ℕ) (n start : ℕ) → AreEndsOf fs ends → n < length ends → start ≡ begin 0 ends n
+    → (start ≤ get_or ends n 0) × (get_or ends n 0 ≤ length fs) × (slice_range fs start (get_or ends n 0) ≡ get_or (cut fs 0 ends) n [])
+cut_read fs ends n start c inside b = (
+  let order = begin_le 0 ends n c.order inside in omega (arith, order, b),
+  let most = end_le 0 ends n c.order inside in let whole = c.last in omega (arith, most, whole),
+  ap (λ k. slice_range fs k (get_or ends n 0)) b ∙ sym (cut_at fs 0 ends n inside),
 )
-  where
-    inside : offset < length ends
-    inside = let size = cut_length fs 0 ends in let same = ap length e in omega (arith, h, size, same)
 
-    read : end ≡ get_or ends offset 0
-    read = get_or_read ends offset end inside r 0
+module _ {X : Type 0} (xs : List X) where
+  range_length : (from end : ℕ) → end ≤ length xs → length (slice_range xs from end) ≡ end - from
+  range_length from end m = length-take-le (end - from) (drop from xs) (let size = length-drop from xs in omega (arith, size, m))
 
-    s : start ≡ begin 0 ends offset
-    s = b ∙ ap (λ es. begin 0 es offset) d
+  -- a member of a piece is a member of the list
+  pub cut_inside : (ends : List ℕ) (n o : ℕ) (d : X) → AreEndsOf xs ends → n < length ends → o < length (get_or (cut xs 0 ends) n [])
+      → (begin 0 ends n + o < length xs) × (get_or xs (begin 0 ends n + o) d ≡ get_or (get_or (cut xs 0 ends) n []) o d)
+  cut_inside ends n o d c inside h =
+      let first = begin 0 ends n in
+      let end = get_or ends n 0 in
+      let read = cut_read xs ends n first c inside refl in
+      let most = read.1 in
+      let piece = ap length read.2 in
+      let size = range_length first end most in
+      let below : first + o < end = omega (arith, h, piece, size) in (
+        omega (arith, below, most),
+        sym (get_or-drop first xs o d) ∙ (sym (get_or-take (end - first) (drop first xs) o d (omega (arith, below))) ∙ ap (λ ys. get_or ys o d) read.2),
+      )
+
+  -- how many members stand before a piece, and in all of them
+  sum_step : (from end : ℕ) (more : List (List X)) → from ≤ end → end ≤ length xs → from + sum_by length (slice_range xs from end ∷ more) ≡ end + sum_by length more
+  sum_step from end more o m =
+      let parts = sum_by-cons (length {A = X}) (slice_range xs from end) more in
+      let size = range_length from end m in
+      omega (arith, parts, size, o)
+
+  pub cut_before : (from : ℕ) (ends : List ℕ) (n : ℕ) → AreEnds from ends → last_end from ends ≤ length xs → n < length ends → from + sum_by length (take n (cut xs from ends)) ≡ begin from ends n
+  cut_before from [] n o m h = absurd (omega (arith, h))
+  cut_before from (end ∷ ends) zero o m h = omega arith
+  cut_before from (end ∷ ends) (suc n) o m h =
+      let last = order_last end ends o.1 in
+      sum_step from end (take n (cut xs end ends)) o.0 (omega (arith, last, m)) ∙ (cut_before end ends n o.1 m (omega (arith, h)) ∙ sym (begin_next from end ends n))
+
+  pub cut_sum : (from : ℕ) (ends : List ℕ) → AreEnds from ends → last_end from ends ≤ length xs → from + sum_by length (cut xs from ends) ≡ last_end from ends
+  cut_sum from [] o m = omega arith
+  cut_sum from (end ∷ ends) o m = let last = order_last end ends o.1 in sum_step from end (cut xs end ends) o.0 (omega (arith, last, m)) ∙ cut_sum end ends o.1 m

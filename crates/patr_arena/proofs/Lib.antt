@@ -2,6 +2,7 @@ pub mod Sizes
 pub mod Rises
 pub mod Showing
 pub mod Cutting
+pub mod Rows
 pub mod RowsShow
 pub mod InArenas
 pub mod Results

@@ -1,8 +1,8 @@
 pub mod Shown
 pub mod Blocks
 pub mod Facts
-pub mod Rows
 pub mod Cuts
+pub mod Rows
 pub mod Arenas
 pub mod Paths
 pub mod Sentences

@@ -1,7 +1,8 @@
 -- Blocks one behind another, and what stands before them.
-use Rattle.std.specs.Prelude.{◌≡◌, ℕ, ◌+◌, ◌*◌, ◌^◌, ◌<◌, ◌≤◌, List, [], ◌∷◌, ◌++◌, length, slice_index, slice_index_or, take}
+use Rattle.std.specs.Prelude.{◌≡◌, ℕ, ◌+◌, ◌*◌, ◌^◌, ◌<◌, ◌≤◌, List, [], ◌∷◌, ◌++◌, length, slice_index_or, take}
 use Rattle.std.specs.List.{sum_by}
 use Rattle.patr_arena.specs.declared.value.Feature.{Feature}
+use Rattle.patr_arena.specs.Cuts.{AreEndsOf, cut}
 
 -- blocks, and how many blocks and nodes stand before them
 pub record Row : Type 0 where
@@ -33,10 +34,14 @@ HasNode row k offset = (k < length row.blocks) × (offset < length (slice_index_
 abbrev pub appended : Row → List (List Feature) → Row
 appended row block = record { first_block = row.first_block; first_node = row.first_node; blocks = row.blocks ++ block ∷ [] }
 
--- how a row is kept: where each block starts, how many nodes there are, and that their numbers fit
-pub record IsRow (row : Row) (starts : List ℕ) (nodes : ℕ) : Type 0 where
-  pub each : length starts ≡ length row.blocks
-  pub begins : (k : ℕ) → k < length row.blocks → slice_index starts k ≡ start row k
-  pub whole : nodes ≡ nodes_of row
+-- the blocks whose nodes are cut out of these arcs, and which are cut out of these nodes
+abbrev pub blocks_in : List Feature → List ℕ → List ℕ → List (List (List Feature))
+blocks_in features ends node_ends = cut (cut features 0 ends) 0 node_ends
+
+-- how a row is kept: where each node and each block ends, and that the numbers of blocks and nodes fit
+pub record IsRow (row : Row) (features : List Feature) (ends : List ℕ) (node_ends : List ℕ) : Type 0 where
+  pub blocks_are : row.blocks ≡ blocks_in features ends node_ends
+  pub arcs : AreEndsOf features ends
+  pub nodes : AreEndsOf (cut features 0 ends) node_ends
   pub few_blocks : blocks_of row < 2 ^ 32
-  pub few_nodes : nodes ≤ blocks_of row * 2 ^ 32
+  pub few_nodes : nodes_of row ≤ blocks_of row * 2 ^ 32

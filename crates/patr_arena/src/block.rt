@@ -1,8 +1,8 @@
 //! A block of nodes.
-ghost use Rattle.std.specs.Prelude.{◌≡◌, ◌<◌, ◌≤◌, ◌-◌, ◌^◌, [], ◌∷◌, ◌++◌, length, slice_index_or, slice_range, IfOk, OnErr};
+ghost use Rattle.std.specs.Prelude.{◌≡◌, ◌<◌, ◌≤◌, ◌-◌, ◌^◌, [], ◌∷◌, ◌++◌, length, slice_index_or, slice_range, IfOk, OnErr, OnOk};
 ghost use Rattle.std.specs.List.Sorted.{IsStrictlyIncreasing};
 ghost use Rattle.patr_arena.specs.Blocks.{AllBelow, IsBlock, attributes};
-ghost use Rattle.patr_arena.specs.Cuts.{begin};
+ghost use Rattle.patr_arena.specs.Cuts.{AreEndsOf, IsAppended, begin, cut};
 
 use crate::value::Feature;
 use patr_text::Memory;
@@ -16,7 +16,7 @@ pub struct Block {
     /// The arcs of all nodes, one node's behind the other's.
     features: Vec<Feature>,
     /// Where the arcs of each node end.
-    ends: Vec<usize>,
+    ends: Vec<u32>,
 }
 
 impl Model for Block {
@@ -42,6 +42,17 @@ impl Block {
         }
     }
 
+    /// A block without nodes that has room for so many nodes and arcs: until it has them it takes no more memory.
+    /// Fails for want of memory alone.
+    pub fn with_room(alloc: Global, nodes: usize, arcs: usize) -> Result<Block, Memory>
+        ensures { IfOk result (λ block. block ≡ []) }
+    {
+        Ok(Block {
+            features: Vec::with_capacity(alloc, arcs)?,
+            ends: Vec::with_capacity(alloc, nodes)?,
+        })
+    }
+
     /// Puts a node with these arcs behind the others, and answers its offset. The attributes rise, and each `New`
     /// leads to a node that the block has. Fails for want of memory alone, and then the block is as before.
     pub fn add(&mut self, arcs: &[Feature]) -> Result<u32, Memory>
@@ -51,12 +62,13 @@ impl Block {
         ensures err { OnErr result (self.new ≡ self.old) }
     {
         let offset = self.ends.len();
-        if offset >= u32::MAX as usize {
+        let end = self.features.len() + arcs.len();
+        if offset >= u32::MAX as usize || end > u32::MAX as usize {
             return Err(AllocError);
         }
         self.ends.reserve(1)?;
         self.features.extend_from_slice(arcs)?;
-        self.ends.push_reserved(self.features.len());
+        self.ends.push_reserved(end as u32);
         Ok(offset as u32)
     }
 
@@ -73,24 +85,57 @@ impl Block {
         requires { offset < length self.now }
         ensures { result.now ≡ slice_index_or self.now offset [] }
     {
-        let start = start_of(&self.ends, offset as usize);
-        let end = self.ends[offset as usize];
-        between(&self.features, start, end)
+        piece(&self.features, &self.ends, offset as usize)
+    }
+
+    /// Puts the block's arcs and its nodes' ends behind others. Fails for want of memory alone, and then these are as
+    /// before.
+    pub(crate) fn append_to(
+        &self,
+        features: &mut Vec<Feature>,
+        ends: &mut Vec<u32>,
+    ) -> Result<(), Memory>
+        requires { AreEndsOf features.old.items ends.old.items }
+        ensures ok { OnOk result (IsAppended self.now features.old.items ends.old.items features.new.items ends.new.items) }
+        ensures arcs { OnErr result (features.new.items ≡ features.old.items) }
+        ensures ends { OnErr result (ends.new.items ≡ ends.old.items) }
+    {
+        let before = features.len();
+        if before + self.features.len() > u32::MAX as usize
+            || ends.len() + self.ends.len() > u32::MAX as usize
+        {
+            return Err(AllocError);
+        }
+        ends.reserve(self.ends.len())?;
+        features.extend_from_slice(&self.features)?;
+        for end in &self.ends {
+            ends.push_reserved(before as u32 + *end);
+        }
+        Ok(())
     }
 }
 
-/// The arcs from one place on and before another.
-fn between(features: &[Feature], start: usize, end: usize) -> &[Feature]
-    requires { start ≤ end × end ≤ length features.now }
-    ensures { result.now ≡ slice_range features.now start end }
+/// The n-th piece of a list that is cut at these ends.
+pub(crate) fn piece<'a, T>(items: &'a [T], ends: &[u32], n: usize) -> &'a [T]
+    requires ends { AreEndsOf items.now ends.now }
+    requires inside { n < length ends.now }
+    ensures { result.now ≡ slice_index_or (cut items.now 0 ends.now) n [] }
 {
-    &features[start..end]
+    between(items, start_of(ends, n) as usize, ends[n] as usize)
 }
 
-/// Where the arcs of the node at this offset start, by the ends of all nodes' arcs.
-fn start_of(ends: &[usize], offset: usize) -> usize
-    requires { offset < length ends.now }
-    ensures { result ≡ begin 0 ends.now offset }
+/// The members from one place on and before another.
+fn between<T>(items: &[T], start: usize, end: usize) -> &[T]
+    requires { start ≤ end × end ≤ length items.now }
+    ensures { result.now ≡ slice_range items.now start end }
 {
-    if offset == 0 { 0 } else { ends[offset - 1] }
+    &items[start..end]
+}
+
+/// Where the n-th piece of a list begins that is cut at these ends.
+pub(crate) fn start_of(ends: &[u32], n: usize) -> u32
+    requires { n < length ends.now }
+    ensures { result ≡ begin 0 ends.now n }
+{
+    if n == 0 { 0 } else { ends[n - 1] }
 }

@@ -15,6 +15,12 @@ fn find_arc(arcs: &[Feature], attribute: Id) -> Option<Ref>
     requires { IsStrictlyIncreasing (attributes arcs.now) }
     ensures { result ≡ feature_to arcs.now attribute.0 }
 {
+    // The arcs of a node of slots have the attributes 0, 1, 2, ..
+    if let Some(arc) = arcs.get(attribute.0 as usize) {
+        if arc.attribute == attribute {
+            return Some(arc.to);
+        }
+    }
     match arcs.binary_search_by_key(&attribute.0, |arc| arc.attribute.0) {
         Ok(place) => Some(arcs[place].to),
         Err(_) => None,

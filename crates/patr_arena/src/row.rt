@@ -2,30 +2,33 @@
 ghost use Rattle.std.specs.Prelude.{◌≡◌, ◌+◌, ◌-◌, ◌*◌, ◌^◌, ◌<◌, ◌≤◌, [], ◌∷◌, ◌++◌, length, slice_index_or, MatchResult};
 ghost use Rattle.patr_arena.specs.Rows.{HasNode, Row, appended, blocks_of, node_in, nodes_of, start};
 
-use crate::block::Block;
+use crate::block::{Block, piece, start_of};
 use crate::value::Feature;
 use std::alloc::Global;
 use std::marker::Model;
 
-/// Blocks one behind another, with how many nodes stand before each, so that a node's place is found at once.
-/// Other blocks may stand before them.
+/// Blocks one behind another, all in three lists, so that a small block takes little memory. Other blocks may stand
+/// before them.
 #[derive(Drop)]
 pub(crate) struct BlockRow {
     first_block: u32,
     first_node: u64,
-    blocks: Vec<Block>,
-    starts: Vec<u64>,
-    nodes: u64,
+    /// The arcs of all nodes, one block's behind the other's.
+    features: Vec<Feature>,
+    /// Where the arcs of each node end, counted from the first arc of all.
+    ends: Vec<u32>,
+    /// Where the nodes of each block end.
+    node_ends: Vec<u32>,
 }
 
 impl Model for BlockRow {
-    ghost use Rattle.patr_arena.specs.Rows.{Row, IsRow};
+    ghost use Rattle.patr_arena.specs.Rows.{Row, IsRow, blocks_in};
 
     ghost Value = { Row };
 
-    ghost view = { λ row. record { first_block = row.first_block; first_node = row.first_node; blocks = row.blocks.items } };
+    ghost view = { λ row. record { first_block = row.first_block; first_node = row.first_node; blocks = blocks_in row.features.items row.ends.items row.node_ends.items } };
 
-    ghost invariant = { λ row. IsRow (record { first_block = row.first_block; first_node = row.first_node; blocks = row.blocks.items }) row.starts.items row.nodes };
+    ghost invariant = { λ row. IsRow (record { first_block = row.first_block; first_node = row.first_node; blocks = blocks_in row.features.items row.ends.items row.node_ends.items }) row.features.items row.ends.items row.node_ends.items };
 }
 
 impl BlockRow {
@@ -36,9 +39,9 @@ impl BlockRow {
         BlockRow {
             first_block: 0,
             first_node: 0,
-            blocks: Vec::new(alloc),
-            starts: Vec::new(alloc),
-            nodes: 0,
+            features: Vec::new(alloc),
+            ends: Vec::new(alloc),
+            node_ends: Vec::new(alloc),
         }
     }
 
@@ -48,10 +51,10 @@ impl BlockRow {
     {
         BlockRow {
             first_block: self.blocks(),
-            first_node: self.nodes,
-            blocks: Vec::new(alloc),
-            starts: Vec::new(alloc),
-            nodes: self.nodes,
+            first_node: self.nodes(),
+            features: Vec::new(alloc),
+            ends: Vec::new(alloc),
+            node_ends: Vec::new(alloc),
         }
     }
 
@@ -61,16 +64,13 @@ impl BlockRow {
         ensures { MatchResult result (λ number. (number ≡ blocks_of self.old) × (self.new ≡ appended self.old block)) (λ back. (back ≡ block) × (self.new ≡ self.old)) }
     {
         let number = self.blocks();
-        if number == u32::MAX
-            || self.starts.reserve(1).is_err()
-            || self.blocks.reserve(1).is_err()
-        {
+        if number == u32::MAX || self.node_ends.reserve(1).is_err() {
             return Err(block);
         }
-        let nodes = u64::from(block.len());
-        self.starts.push_reserved(self.nodes);
-        self.blocks.push_reserved(block);
-        self.nodes += nodes;
+        let Ok(()) = block.append_to(&mut self.features, &mut self.ends) else {
+            return Err(block);
+        };
+        self.node_ends.push_reserved(self.ends.len() as u32);
         Ok(number)
     }
 
@@ -85,14 +85,15 @@ impl BlockRow {
     pub(crate) fn blocks(&self) -> u32
         ensures { result ≡ blocks_of self.now }
     {
-        self.first_block + self.blocks.len() as u32
+        self.first_block + self.node_ends.len() as u32
     }
 
     /// How many nodes there are, those before the row counted.
     pub(crate) fn nodes(&self) -> u64
-        ensures { result ≡ nodes_of self.now }
+        ensures count { result ≡ nodes_of self.now }
+        ensures few { result ≤ blocks_of self.now * 2 ^ 32 }
     {
-        self.nodes
+        self.first_node + self.ends.len() as u64
     }
 
     /// The arcs of the node at this offset of the block `k` of the row.
@@ -100,7 +101,7 @@ impl BlockRow {
         requires { HasNode self.now k offset }
         ensures { result.now ≡ node_in self.now k offset }
     {
-        self.blocks[k as usize].arcs(offset)
+        piece(&self.features, &self.ends, self.place(k, offset))
     }
 
     /// The place of the node at this offset of the block `k` of the row, those before the row counted.
@@ -108,6 +109,14 @@ impl BlockRow {
         requires { HasNode self.now k offset }
         ensures { result ≡ start self.now k + offset }
     {
-        self.starts[k as usize] + u64::from(offset)
+        self.first_node + self.place(k, offset) as u64
+    }
+
+    /// The place of the node at this offset of the block `k` of the row, of the row's own nodes alone.
+    fn place(&self, k: u32, offset: u32) -> usize
+        requires { HasNode self.now k offset }
+        ensures { self.now.first_node + result ≡ start self.now k + offset }
+    {
+        start_of(&self.node_ends, k as usize) as usize + offset as usize
     }
 }

@@ -210,3 +210,10 @@ fn shared_nodes_are_looked_at_once(rt: HostRuntime) -> Result<(), Fail> {
     assert!(rt; !maps_into(rt.alloc(), &arena, top, below)?);
     Ok(())
 }
+
+#[test]
+fn a_block_with_room_has_no_nodes(rt: HostRuntime) -> Result<(), Fail> {
+    let block = Block::with_room(rt.alloc(), 2, 3)?;
+    assert_eq!(rt; block.len(), 0);
+    Ok(())
+}

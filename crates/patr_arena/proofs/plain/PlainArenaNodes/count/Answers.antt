@@ -6,4 +6,4 @@ use Rattle.patr_arena.proofs.plain.PlainArenaNodes.count.Goals as goal
 pub returns : goal.returns
 returns c =
     let arena = c.args.self.now in
-    c.nodes.ensures ∙ row_count nothing nothing_shown arena.row arena.first_block arena.first_node arena.blocks
+    c.nodes.ensures.count ∙ row_count nothing nothing_shown arena.row arena.first_block arena.first_node arena.blocks

@@ -6,4 +6,4 @@ use Rattle.patr_arena.proofs.sentence.SentenceArenaNodes.count.Goals as goal
 pub returns : goal.returns
 returns c =
     let arena = c.args.self.now in
-    c.nodes.ensures ∙ row_count (shown_of arena.base.now) arena.base.now.lawful arena.row arena.first_block arena.first_node arena.blocks
+    c.nodes.ensures.count ∙ row_count (shown_of arena.base.now) arena.base.now.lawful arena.row arena.first_block arena.first_node arena.blocks
