@@ -1,5 +1,5 @@
 -- The first nodes of a block alone.
-use Rattle.std.proofs.Common.{◌≡◌, ℕ, ◌+◌, ◌<◌, ◌≤◌, List, [], ◌∷◌, length, take, get_or, refl, sym, ap, ◌∙◌, arith, subst}
+use Rattle.std.proofs.Common.{◌≡◌, ℕ, ◌+◌, ◌≤◌, List, [], ◌∷◌, length, take, get_or, refl, sym, ap, ◌∙◌, arith, subst}
 use Rattle.std.proofs.lemmas.List.{get_or-take}
 use Rattle.patr_arena.proofs.Cutting.{block_front, front_keeps}
 use Rattle.patr_arena.specs.declared.value.Ref.TheVariants as ref

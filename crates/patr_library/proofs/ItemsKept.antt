@@ -1,12 +1,11 @@
 -- The least value of a block where the block stands in an arena, and what is reached from it.
 use Rattle.std.proofs.Common.{◌≡◌, ℕ, ◌+◌, ◌<◌, ◌≤◌, Bool, true, false, cond, nat_eq, List, [], ◌∷◌, length, length-append, get_or, Some, refl, sym, ap, ◌∙◌, arith, subst}
-use Rattle.patr_library.proofs.Names.{sum_by, length-map, get_or-append-add, total, Value, Atom, Node, Structure, along, arc, at, Same, Equation, variant, RuleAt, IsLeastOf, AreWithin, some_inj, and_then_some, own, Ref, Feature, Shown, IsShown, IsHeld, number_of, ref_of, with_block, held_below, still_held, same_number, block_extends, new_number, own_arcs, own_nodes, own_value, IsOwn, AllOwn, IsOwnBlock, IsPlacedAt, shift, shifted, IsLeastAt, Bounds, HasBlock, Counts}
+use Rattle.patr_library.proofs.Names.{sum_by, length-map, get_or-append-add, total, Value, Atom, Node, Structure, along, arc, at, Same, Equation, variant, RuleAt, IsLeastOf, AreWithin, some_inj, and_then_some, own, Ref, Feature, Shown, IsShown, IsHeld, number_of, ref_of, with_block, held_below, still_held, same_number, block_extends, new_number, own_nodes, own_value, IsOwn, AllOwn, IsOwnBlock, IsPlacedAt, shift, shifted, IsLeastAt, Bounds, HasBlock, Counts}
 use Rattle.patr_library.proofs.Room.{range, range_has, range_long, range_weight}
 use Rattle.patr_lists.proofs.Totals.{total_room}
 use Rattle.patr_lists.proofs.Members.{no_longer}
 use Rattle.patr_lists.specs.Members.{IsIn}
 use Rattle.patr_arena.specs.declared.value.Ref.TheVariants as ref
-use Rattle.patr_library.proofs.Corresponding.{own_get}
 use Rattle.patr_library.proofs.Placed.{ref_shifted, held_anywhere, placed_same, placed_new, placed_longer}
 use Rattle.patr_library.proofs.Steps.{same_least}
 

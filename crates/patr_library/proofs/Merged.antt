@@ -1,6 +1,6 @@
 -- The items of rules and of entries are exactly the variants that have a solution, and they are found by key.
 use Rattle.std.proofs.Common.{◌≡◌, inl, inr, ℕ, List, length, map, Some, slice_get, refl, ap, ◌∙◌, [], ◌∷◌, sym, subst, zero, suc, ◌+◌, ◌<◌, Bool, cond, ◌++◌, take, get_or, None, arith}
-use Rattle.patr_library.proofs.Names.{IsOwnBlock, IsValue, Same, own_nodes, own_value, maps_transitive, value_below, all_weaker, AllByRecursion, Rules, RuleVariant, Begin, rule_variant, IsSolvable, AreWithin, variant_steps, Shown, IsShown, RuleItem, IsRuleItem, AreKept, HasNoRule, HasRuleItem, Numbered, all_numbered, EntryVariant, Leaf, entry_variant, Node, IsLeastValue, some_inj, number_of, ref_of, value_of, EntryItem, Bounds, IsEntryItem, HasEntryItem, HasNoEntry, NumberedEntry, length-map, map-append, take_more, slice_get_within, and_then_some, places, build_fault, rules_fault, entries_fault, grammar_first, in_lexicon, rule_variants, entry_variants, are_built, Id, rule_seen, Entry, entry_seen, has_key, AreOfEntries, HasItems, built_rules, grammar_of, entries_of, keys, word_at, is_number, is_of_word, is_of_mother, AreRulesDealt, variants_of, AreEntriesDealt, entry_variants_of, length-take-le}
+use Rattle.patr_library.proofs.Names.{IsOwnBlock, IsValue, Same, own_nodes, own_value, maps_transitive, value_below, all_weaker, AllByRecursion, Rules, RuleVariant, Begin, rule_variant, IsSolvable, AreWithin, variant_steps, Shown, IsShown, RuleItem, IsRuleItem, AreKept, HasNoRule, HasRuleItem, Numbered, all_numbered, EntryVariant, Leaf, entry_variant, Node, IsLeastValue, some_inj, ref_of, value_of, EntryItem, Bounds, IsEntryItem, HasEntryItem, HasNoEntry, NumberedEntry, length-map, map-append, take_more, slice_get_within, and_then_some, places, build_fault, rules_fault, entries_fault, grammar_first, in_lexicon, rule_variants, entry_variants, are_built, Id, rule_seen, Entry, entry_seen, has_key, AreOfEntries, HasItems, built_rules, grammar_of, entries_of, keys, word_at, is_number, is_of_word, is_of_mother, AreRulesDealt, variants_of, AreEntriesDealt, entry_variants_of, length-take-le}
 use Rattle.patr_model.proofs.Leaves.{leaves_are_rules}
 use Rattle.std.proofs.lemmas.Simd.{map-map}
 use Rattle.patr_grammar.specs.declared.grammar.Grammar.{Grammar}
