@@ -1,6 +1,6 @@
 -- Lists cut at places that rise.
 use Rattle.std.proofs.Common.{◌≡◌, ◌⊎◌, inl, inr, ℕ, zero, suc, ◌+◌, ◌-◌, ◌<◌, ◌≤◌, ◌^◌, List, [], ◌∷◌, ◌++◌, length, length-append, length-drop, length-take-le, map, take, drop, get_or, refl, sym, ap, ◌∙◌, subst, arith}
-use Rattle.std.proofs.lemmas.List.{drop-append-le, get_or-drop, get_or-take, get_or_append_left, get_or_at, get_or_past, take-append-le, take_all}
+use Rattle.std.proofs.lemmas.List.{drop-append-le, get_or-drop, get_or-take, get_or_append_left, get_or_at, get_or_past, take-append-le, take_all, drop-take, length-take-le, take-take}
 use Rattle.std.proofs.lemmas.List.Sums.{sum_by-cons}
 use Rattle.std.proofs.Math.Seq.{drop-append-add}
 use Rattle.std.specs.List.{slice_range, sum_by}
@@ -179,3 +179,62 @@ module _ {X : Type 0} (xs : List X) where
   pub cut_sum : (from : ℕ) (ends : List ℕ) → AreEnds from ends → last_end from ends ≤ length xs → from + sum_by length (cut xs from ends) ≡ last_end from ends
   cut_sum from [] o m = omega arith
   cut_sum from (end ∷ ends) o m = let last = order_last end ends o.1 in sum_step from end (cut xs end ends) o.0 (omega (arith, last, m)) ∙ cut_sum end ends o.1 m
+
+-- ---- the first pieces alone
+
+range_of_front : {X : Type 0} (fs : List X) (m from end : ℕ) → from ≤ end → end ≤ m → slice_range (take m fs) from end ≡ slice_range fs from end
+range_of_front fs m from end o l =
+    ap (λ j. take (end - from) (drop from (take j fs))) (let sum : m ≡ from + (m - from) = omega (arith, o, l) in sum)
+    ∙ (ap (take (end - from)) (drop-take from (m - from) fs) ∙ take-take (end - from) (m - from) (drop from fs) (omega (arith, o, l)))
+
+order_begin : (from : ℕ) (ends : List ℕ) (n : ℕ) → AreEnds from ends → n < length ends → from ≤ begin from ends n
+order_begin from [] n o h = absurd (omega (arith, h))
+order_begin from (end ∷ ends) zero o h = omega arith
+order_begin from (end ∷ ends) (suc n) o h = let first = o.0 in let rest = order_begin end ends n o.1 (omega (arith, h)) in let next = begin_next from end ends n in omega (arith, first, rest, next)
+
+pub cut_front : {X : Type 0} (fs : List X) (from : ℕ) (ends : List ℕ) (n m : ℕ) → AreEnds from ends → n < length ends → m ≡ begin from ends n → cut (take m fs) from (take n ends) ≡ take n (cut fs from ends)
+cut_front fs from [] n m o h e = absurd (omega (arith, h))
+cut_front fs from (end ∷ ends) zero m o h e = refl
+cut_front fs from (end ∷ ends) (suc n) m o h e =
+    let inside : n < length ends = omega (arith, h) in
+    let next = e ∙ begin_next from end ends n in
+    let below = order_begin end ends n o.1 inside in
+    ap (λ xs. xs ∷ cut (take m fs) end (take n ends)) (range_of_front fs m from end o.0 (omega (arith, next, below)))
+    ∙ ap (λ xs. slice_range fs from end ∷ xs) (cut_front fs end ends n m o.1 inside next)
+
+order_front : (from : ℕ) (ends : List ℕ) (n : ℕ) → AreEnds from ends → AreEnds from (take n ends)
+order_front from [] zero o = tt
+order_front from [] (suc n) o = tt
+order_front from (end ∷ ends) zero o = tt
+order_front from (end ∷ ends) (suc n) o = (o.0, order_front end ends n o.1)
+
+last_front : (from : ℕ) (ends : List ℕ) (n : ℕ) → n < length ends → last_end from (take n ends) ≡ begin from ends n
+last_front from [] n h = absurd (omega (arith, h))
+last_front from (end ∷ ends) zero h = refl
+last_front from (end ∷ ends) (suc n) h = last_front end ends n (omega (arith, h)) ∙ sym (begin_next from end ends n)
+
+-- what holds of a member and of an empty one holds in a front
+pub front_keeps : {X : Type 0} (P : List X → Type 0) → P [] → (m : ℕ) (xs : List (List X)) (n : ℕ) → P (get_or xs n []) → P (get_or (take m xs) n [])
+front_keeps P none zero xs n h = none
+front_keeps P none (suc m) [] n h = h
+front_keeps P none (suc m) (x ∷ xs) zero h = h
+front_keeps P none (suc m) (x ∷ xs) (suc n) h = front_keeps P none m xs n h
+
+pub block_front : (nodes : List (List Feature)) (m : ℕ) → IsBlock nodes → IsBlock (take m nodes)
+block_front nodes m b = record {
+  rising = λ n. front_keeps (λ fs. IsStrictlyIncreasing (attributes fs)) (λ k h. absurd (omega (arith, h))) m nodes n (b.rising n);
+  below = λ n. front_keeps (AllBelow n) tt m nodes n (b.below n);
+}
+
+pub is_cut_front : (fs : List Feature) (ends : List ℕ) (n m : ℕ) → IsCut fs ends → n < length ends → m ≡ begin 0 ends n → IsCut (take m fs) (take n ends)
+is_cut_front fs ends n m c h e =
+    let order = begin_le 0 ends n c.cuts.order h in
+    let most = end_le 0 ends n c.cuts.order h in
+    let whole = c.cuts.last in
+    let few = c.few in
+    let size = length-take-le n ends (omega (arith, h)) in
+    record {
+      few = omega (arith, size, h, few);
+      cuts = record { order = order_front 0 ends n c.cuts.order; last = last_front 0 ends n h ∙ (sym e ∙ sym (length-take-le m fs (omega (arith, order, most, whole, e)))) };
+      block = subst IsBlock (sym (cut_front fs 0 ends n m c.cuts.order h e)) (block_front (cut fs 0 ends) n c.block);
+    }

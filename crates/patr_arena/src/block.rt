@@ -1,5 +1,5 @@
 //! A block of nodes.
-ghost use Rattle.std.specs.Prelude.{◌≡◌, ◌<◌, ◌≤◌, ◌-◌, ◌^◌, [], ◌∷◌, ◌++◌, length, slice_index_or, slice_range, IfOk, OnErr, OnOk};
+ghost use Rattle.std.specs.Prelude.{◌≡◌, ◌<◌, ◌≤◌, ◌-◌, ◌^◌, [], ◌∷◌, ◌++◌, length, slice_index_or, slice_range, take, IfOk, OnErr, OnOk};
 ghost use Rattle.std.specs.List.Sorted.{IsStrictlyIncreasing};
 ghost use Rattle.patr_arena.specs.Blocks.{AllBelow, IsBlock, attributes};
 ghost use Rattle.patr_arena.specs.Cuts.{AreEndsOf, IsAppended, begin, cut};
@@ -70,6 +70,18 @@ impl Block {
         self.features.extend_from_slice(arcs)?;
         self.ends.push_reserved(end as u32);
         Ok(offset as u32)
+    }
+
+    /// Keeps the first so many nodes alone; all where there are no more.
+    pub fn truncate(&mut self, nodes: u32)
+        ensures { self.new ≡ take nodes self.old }
+    {
+        if nodes as usize >= self.ends.len() {
+            return;
+        }
+        let arcs = start_of(&self.ends, nodes as usize);
+        self.features.truncate(arcs as usize);
+        self.ends.truncate(nodes as usize);
     }
 
     /// The number of nodes.

@@ -212,8 +212,13 @@ fn shared_nodes_are_looked_at_once(rt: HostRuntime) -> Result<(), Fail> {
 }
 
 #[test]
-fn a_block_with_room_has_no_nodes(rt: HostRuntime) -> Result<(), Fail> {
-    let block = Block::with_room(rt.alloc(), 2, 3)?;
+fn a_block_is_cut_to_its_first_nodes(rt: HostRuntime) -> Result<(), Fail> {
+    let mut block = Block::with_room(rt.alloc(), 2, 3)?;
     assert_eq!(rt; block.len(), 0);
+    block.add(&[])?;
+    add_one(&mut block, A, Ref::New(0))?;
+    block.truncate(1);
+    assert_eq!(rt; block.len(), 1);
+    assert_eq!(rt; block.arcs(0), [].as_slice());
     Ok(())
 }

@@ -1,12 +1,11 @@
 -- The least value of a block where the block stands in an arena, and what is reached from it.
 use Rattle.std.proofs.Common.{◌≡◌, ℕ, ◌+◌, ◌<◌, ◌≤◌, Bool, true, false, cond, nat_eq, List, [], ◌∷◌, length, length-append, get_or, Some, refl, sym, ap, ◌∙◌, arith, subst}
-use Rattle.patr_library.proofs.Names.{sum_by, length-map, get_or-append-add, total, Value, Atom, Node, Structure, along, arc, at, Same, Equation, variant, RuleAt, IsLeastOf, AreWithin, some_inj, and_then_some, own, Ref, Feature, Shown, IsShown, IsHeld, number_of, ref_of, with_block, held_below, still_held, same_number, block_extends, new_number, own_arcs, own_nodes, own_value, IsOwn, AllOwn, IsOwnBlock, IsPlacedAt, shift, shifted, IsLeastAt, Bounds, HasBlock, Counts}
+use Rattle.patr_library.proofs.Names.{sum_by, length-map, get_or-append-add, total, Value, Atom, Node, Structure, along, arc, at, Same, Equation, variant, RuleAt, IsLeastOf, AreWithin, some_inj, and_then_some, own, Ref, Feature, Shown, IsShown, IsHeld, number_of, ref_of, with_block, held_below, still_held, same_number, block_extends, new_number, own_nodes, own_value, IsOwn, AllOwn, IsOwnBlock, IsPlacedAt, shift, shifted, IsLeastAt, Bounds, HasBlock, Counts}
 use Rattle.patr_library.proofs.Room.{range, range_has, range_long, range_weight}
 use Rattle.patr_lists.proofs.Totals.{total_room}
 use Rattle.patr_lists.proofs.Members.{no_longer}
 use Rattle.patr_lists.specs.Members.{IsIn}
 use Rattle.patr_arena.specs.declared.value.Ref.TheVariants as ref
-use Rattle.patr_library.proofs.Corresponding.{own_get}
 use Rattle.patr_library.proofs.Placed.{ref_shifted, held_anywhere, placed_same, placed_new, placed_longer}
 use Rattle.patr_library.proofs.Steps.{same_least}
 
@@ -58,30 +57,6 @@ module _ (S : Structure) (p : ℕ) (nodes : List (List Feature)) (alone : IsOwnB
       let arcs = c.arcs_are in
       (omega (arith, long, size, count), omega (arith, weight, whole, arcs))
 
-  -- a value of the block, where it stands
-  abbrev moved : Value → Value
-  moved (Atom c) = Atom c
-  moved (Node k) = Node (p + k)
-
-  moved_is : (n : ℕ) (r : Ref) → IsOwn n r → shift p r ≡ moved (own_value r)
-  moved_is n (ref.Atom c) h = refl
-  moved_is n (ref.Old at) h = absurd h
-  moved_is n (ref.New k) h = refl
-
-  moved_along : (n : ℕ) (fs : List Feature) → AllOwn n fs → (a : ℕ) (x : Value) → along (own_arcs fs) a ≡ Some x → along (shifted p fs) a ≡ Some (moved x)
-  moved_along n [] h a x e = cc
-  moved_along n (f ∷ fs) h a x e = go (nat_eq f.attribute.0 a) (moved_along n fs h.1 a x) e
-    where
-      go : (b : Bool) → (along (own_arcs fs) a ≡ Some x → along (shifted p fs) a ≡ Some (moved x)) → cond b (Some (own_value f.to)) (along (own_arcs fs) a) ≡ Some x → cond b (Some (shift p f.to)) (along (shifted p fs) a) ≡ Some (moved x)
-      go true rest k = ap (λ y. Some y) (moved_is n f.to h.0) ∙ ap (λ y. Some (moved y)) (some_inj (own_value f.to) x k)
-      go false rest k = rest k
-
-  -- its arcs lead where they do in the block
-  placed_arc : (i : ℕ) → i < length nodes → (a : ℕ) (r : Ref) → IsOwn (length nodes) r → arc (own_nodes nodes) (Node i) a ≡ Some (own_value r) → arc S (Node (p + i)) a ≡ Some (shift p r)
-  placed_arc i l a r h e =
-      ap (λ es. along es a) (placed.each i l)
-      ∙ (moved_along i (get_or nodes i []) (alone.own i) a (own_value r) (ap (λ es. along es a) (sym (own_get nodes i)) ∙ e) ∙ ap (λ y. Some y) (sym (moved_is (length nodes) r h)))
-
 -- ---- a block of an arena
 
 module _ (v : Shown) (s : IsShown v) (b : ℕ) (nodes : List (List Feature)) (has : HasBlock v b nodes) (alone : IsOwnBlock nodes) where
@@ -111,20 +86,15 @@ module _ (v : Shown) (s : IsShown v) (b : ℕ) (nodes : List (List Feature)) (ha
   block_value : (r : Ref) → IsOwn (length nodes) r → ref_of v b r ≡ shift place r
   block_value = ref_shifted v b place (length nodes) block_number
 
-  -- the node of the block is the same where it stands
-  block_same : (o : ℕ) → o < length nodes → Same v.structure (Node (number_of v b o)) (own_nodes nodes) (Node o)
-  block_same o below = subst (λ n. Same v.structure (Node n) (own_nodes nodes) (Node o)) (sym (block_number o)) (placed_same v.structure place nodes alone block_placed (ref.New o) below)
+  -- a value of the block is the same where it stands
+  pub block_value_same : (r : Ref) → IsOwn (length nodes) r → Same v.structure (ref_of v b r) (own_nodes nodes) (own_value r)
+  block_value_same r h = subst (λ x. Same v.structure x (own_nodes nodes) (own_value r)) (sym (block_value r h)) (placed_same v.structure place nodes alone block_placed r h)
 
   pub block_bounds : (r : Ref) → IsOwn (length nodes) r → (n a : ℕ) → n ≡ length nodes → a ≡ sum_by length nodes → Bounds v (ref_of v b r) n a
   block_bounds r h n a count arcs = λ m c k.
       let i = placed_bounds v.structure place nodes alone block_placed (shift place r) (own_inside v.structure place nodes alone block_placed (length nodes) (omega arith) r h) m c (subst (λ x. Counts v.structure x m c) (block_value r h) k) in
       (omega (arith, i.0, count), omega (arith, i.1, arcs))
 
-  -- an arc of a node of the block
-  pub block_arc : (o : ℕ) → o < length nodes → (a : ℕ) (r : Ref) → IsOwn (length nodes) r → arc (own_nodes nodes) (Node o) a ≡ Some (own_value r) → arc v.structure (Node (number_of v b o)) a ≡ Some (ref_of v b r)
-  block_arc o below a r h e =
-      ap (λ n. arc v.structure (Node n) a) (block_number o) ∙ (placed_arc v.structure place nodes alone block_placed o below a r h e ∙ ap (λ x. Some x) (sym (block_value r h)))
-
   pub block_least : (o : ℕ) → o < length nodes → (cs : List ℕ) (es : List Equation) → AreWithin (length cs) es → IsLeastAt (length cs) es nodes o → IsLeastOf (RuleAt (variant cs es)) v.structure (Node (number_of v b o))
   block_least o below cs es within least =
-      same_least cs es within (own_nodes nodes) (Node o) v.structure (Node (number_of v b o)) s.structure (held_below v s b o (block_held o below)) ((block_same o below).1, (block_same o below).0) (least.least cs refl)
+      same_least cs es within (own_nodes nodes) (Node o) v.structure (Node (number_of v b o)) s.structure (held_below v s b o (block_held o below)) ((block_value_same (ref.New o) below).1, (block_value_same (ref.New o) below).0) (least.least cs refl)

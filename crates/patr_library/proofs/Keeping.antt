@@ -223,12 +223,12 @@ entries_first = record { none = refl; more = λ e es. refl }
 -- ---- entries
 
 -- a new item of an entry's variant
-pub entry_dealt : (v w : Shown) (e k : ℕ) (x : EntryVariant) (nodes : List (List Feature)) (root : ℕ) (to : Ref) (b : ℕ) (at : its.Value) (n a : ℕ) (old new : List EntryItem) → IsShown v
-    → IsLeastAt 1 x.equations nodes root → w ≡ with_block v nodes → b ≡ length v.sizes → arc (own_nodes nodes) (Node root) 0 ≡ Some (own_value to) → IsOwn (length nodes) to
+pub entry_dealt : (v w : Shown) (e k : ℕ) (x : EntryVariant) (whole nodes : List (List Feature)) (root : ℕ) (to : Ref) (b : ℕ) (at : its.Value) (n a : ℕ) (old new : List EntryItem) → IsShown v
+    → IsLeastAt 1 x.equations whole root → nodes ≡ take root whole → w ≡ with_block v nodes → b ≡ length v.sizes → arc (own_nodes whole) (Node root) 0 ≡ Some (own_value to) → IsOwn (length nodes) to
     → value_of w at ≡ ref_of w b to → ValueIsHeld w at → n ≡ length nodes → a ≡ sum_by length nodes
     → new ≡ old ++ record { entry = e; variant = k; root = at; nodes = n; arcs = a } ∷ []
     → IsEntryDealt v w e k x old new
-entry_dealt v w e k x nodes root to b at n a old new s least is block slot own same held counted arcs more =
+entry_dealt v w e k x whole nodes root to b at n a old new s least front is block slot own same held counted arcs more =
     inr (
       nodes,
       is,
@@ -237,13 +237,15 @@ entry_dealt v w e k x nodes root to b at n a old new s least is block slot own s
       record {
         entry_is = refl;
         variant_is = refl;
-        nodes = nodes;
-        number = b;
+        whole = whole;
         slots = root;
         to = to;
-        block = new_block v w nodes b s is block;
         least = least;
         slot = slot;
+        nodes = nodes;
+        number = b;
+        front = front;
+        block = new_block v w nodes b s is block;
         own = own;
         root = same;
         held = held;
@@ -272,13 +274,15 @@ entry_still v w e d i s =
     record {
       entry_is = s.entry_is;
       variant_is = s.variant_is;
-      nodes = s.nodes;
-      number = s.number;
+      whole = s.whole;
       slots = s.slots;
       to = s.to;
-      block = block_still v w s.number s.nodes e s.block;
       least = s.least;
       slot = s.slot;
+      nodes = s.nodes;
+      number = s.number;
+      front = s.front;
+      block = block_still v w s.number s.nodes e s.block;
       own = s.own;
       root = value.1 ∙ (s.root ∙ sym (ref_still v w e s.number s.nodes s.block s.to s.own));
       held = value.0;

@@ -14,3 +14,4 @@ pub mod Reached
 pub mod Room
 mod Steps
 mod Workspaces
+mod Fronts

@@ -1,12 +1,13 @@
 -- The items of rules and of entries are exactly the variants that have a solution, and they are found by key.
 use Rattle.std.proofs.Common.{◌≡◌, inl, inr, ℕ, List, length, map, Some, slice_get, refl, ap, ◌∙◌, [], ◌∷◌, sym, subst, zero, suc, ◌+◌, ◌<◌, Bool, cond, ◌++◌, take, get_or, None, arith}
-use Rattle.patr_library.proofs.Names.{all_weaker, AllByRecursion, Rules, RuleVariant, Begin, rule_variant, IsSolvable, AreWithin, variant_steps, Shown, IsShown, RuleItem, IsRuleItem, AreKept, HasNoRule, HasRuleItem, Numbered, all_numbered, EntryVariant, Leaf, entry_variant, Node, IsLeastValue, some_inj, number_of, ref_of, value_of, EntryItem, Bounds, IsEntryItem, HasEntryItem, HasNoEntry, NumberedEntry, length-map, map-append, take_more, slice_get_within, and_then_some, places, build_fault, rules_fault, entries_fault, grammar_first, in_lexicon, rule_variants, entry_variants, are_built, Id, rule_seen, Entry, entry_seen, has_key, AreOfEntries, HasItems, built_rules, grammar_of, entries_of, keys, word_at, is_number, is_of_word, is_of_mother, AreRulesDealt, variants_of, AreEntriesDealt, entry_variants_of, length-take-le}
+use Rattle.patr_library.proofs.Names.{IsOwnBlock, IsValue, Same, own_nodes, own_value, maps_transitive, value_below, all_weaker, AllByRecursion, Rules, RuleVariant, Begin, rule_variant, IsSolvable, AreWithin, variant_steps, Shown, IsShown, RuleItem, IsRuleItem, AreKept, HasNoRule, HasRuleItem, Numbered, all_numbered, EntryVariant, Leaf, entry_variant, Node, IsLeastValue, some_inj, ref_of, value_of, EntryItem, Bounds, IsEntryItem, HasEntryItem, HasNoEntry, NumberedEntry, length-map, map-append, take_more, slice_get_within, and_then_some, places, build_fault, rules_fault, entries_fault, grammar_first, in_lexicon, rule_variants, entry_variants, are_built, Id, rule_seen, Entry, entry_seen, has_key, AreOfEntries, HasItems, built_rules, grammar_of, entries_of, keys, word_at, is_number, is_of_word, is_of_mother, AreRulesDealt, variants_of, AreEntriesDealt, entry_variants_of, length-take-le}
 use Rattle.patr_model.proofs.Leaves.{leaves_are_rules}
 use Rattle.std.proofs.lemmas.Simd.{map-map}
 use Rattle.patr_grammar.specs.declared.grammar.Grammar.{Grammar}
 use Rattle.patr_lists.specs.Tables.{Table, with_number}
 use Rattle.patr_lists.proofs.Tables.{index_added}
-use Rattle.patr_library.proofs.ItemsKept.{block_held, block_bounds, block_least, block_arc}
+use Rattle.patr_library.proofs.ItemsKept.{block_held, block_bounds, block_least, block_value_same}
+use Rattle.patr_library.proofs.Fronts.{front_same, least_value_same}
 use Rattle.patr_library.proofs.Listed.{kept_all, kept_every, all_members, every_member, items_rise}
 use Rattle.patr_library.specs.Stored.{number}
 use Rattle.patr_library.proofs.Keeping.{kept_map, rule_still}
@@ -44,17 +45,23 @@ module _ (g : Rules) (v : Shown) (s : IsShown v) (within : (r k : ℕ) (rule : R
 
 module _ (g : Rules) (v : Shown) (s : IsShown v) (within : (e k : ℕ) (entry : EntryVariant) → entry_variant g e k ≡ Some entry → AreWithin 1 entry.equations)
     (chains : (e k : ℕ) (entry : EntryVariant) → entry_variant g e k ≡ Some entry → entry.chain ≡ []) where
+  -- what is left of the block of the one slot, and what is in the slot
+  left : (d : NumberedEntry) (i : EntryItem) → (h : HasEntryItem v d i) → IsOwnBlock h.nodes × Same (own_nodes h.whole) (own_value h.to) (own_nodes h.nodes) (own_value h.to)
+  left d i h = front_same h.whole h.nodes h.slots h.to h.least.rooted.own (let below = h.least.rooted.root in omega (arith, below)) h.front h.own
+
   -- the value in the one slot is the entry's least value
   leaf_least : (d : NumberedEntry) (i : EntryItem) → entry_variant g d.0 d.1 ≡ Some d.2 → HasEntryItem v d i → (from to : ℕ) → IsLeastValue g (Leaf d.0 d.1 from to) v.structure (value_of v i.root)
-  leaf_least d i is stored from to =
-      let b = stored.number in
-      let alone = stored.least.rooted.own in
-      let below = stored.least.rooted.root in
-      let m = Node (number_of v b stored.slots) in
-      let least = block_least v s b stored.nodes stored.block alone stored.slots below (d.2.category ∷ []) d.2.equations (within d.0 d.1 d.2 is) stored.least in
-      let x = leaves_are_rules.solved g d.0 d.1 from to d.2 v.structure m is (chains d.0 d.1 d.2 is) least in
-      let slot = block_arc v s b stored.nodes stored.block alone stored.slots below 0 stored.to stored.own stored.slot in
-      subst (IsLeastValue g (Leaf d.0 d.1 from to) v.structure) (some_inj x.0 (ref_of v b stored.to) (sym x.1 ∙ slot) ∙ sym stored.root) x.2
+  leaf_least d i is h from to =
+      let x = leaves_are_rules.solved g d.0 d.1 from to d.2 (own_nodes h.whole) (Node h.slots) is (chains d.0 d.1 d.2 is) (h.least.least (d.2.category ∷ []) refl) in
+      let least = subst (IsLeastValue g (Leaf d.0 d.1 from to) (own_nodes h.whole)) (some_inj x.0 (own_value h.to) (sym x.1 ∙ h.slot)) x.2 in
+      let rest = left d i h in
+      let here = block_value_same v s h.number h.nodes h.block rest.0 h.to h.own in
+      let root : IsValue v.structure (value_of v i.root) = value_below v s i.root h.held in
+      let same = subst (λ y. Same (own_nodes h.whole) (own_value h.to) v.structure y) (sym h.root) (
+        maps_transitive (own_nodes h.whole) (own_value h.to) (own_nodes h.nodes) (own_value h.to) v.structure (ref_of v h.number h.to) rest.1.0 here.1,
+        maps_transitive v.structure (ref_of v h.number h.to) (own_nodes h.nodes) (own_value h.to) (own_nodes h.whole) (own_value h.to) here.0 rest.1.1,
+      ) in
+      least_value_same g (Leaf d.0 d.1 from to) (own_nodes h.whole) (own_value h.to) v.structure (value_of v i.root) s.structure root same least
 
   entry_item : (d : NumberedEntry) (i : EntryItem) → entry_variant g d.0 d.1 ≡ Some d.2 → HasEntryItem v d i → IsEntryItem g v i
   entry_item d i is stored = record {
@@ -66,7 +73,7 @@ module _ (g : Rules) (v : Shown) (s : IsShown v) (within : (e k : ℕ) (entry : 
         (subst (λ k. IsLeastValue g (Leaf d.0 k from to) v.structure (value_of v i.root)) (sym stored.variant_is) (leaf_least d i is stored from to));
     bounds =
         subst (λ x. Bounds v x i.nodes i.arcs) (sym stored.root)
-        (block_bounds v s stored.number stored.nodes stored.block stored.least.rooted.own stored.to stored.own i.nodes i.arcs stored.nodes_are stored.arcs_are);
+        (block_bounds v s stored.number stored.nodes stored.block (left d i stored).0 stored.to stored.own i.nodes i.arcs stored.nodes_are stored.arcs_are);
   }
 
   every_entry : (is : List EntryItem) → AreKept (HasEntryItem v) HasNoEntry (all_numbered 0 g.entries) is

@@ -1,7 +1,7 @@
 -- What a build keeps of an entry's variant.
 --     IsEntryStored          an item of an entry's variant: what the one slot of its least value has, in a block of its own
 --     AreEntriesDealt        these variants more have an item each, or no solution
-use Rattle.std.specs.Prelude.{◌≡◌, ℕ, List, length, map, Some}
+use Rattle.std.specs.Prelude.{◌≡◌, ℕ, List, length, map, take, Some}
 use Rattle.std.specs.declared.vec.Vec.{Vec}
 use Rattle.std.specs.declared.alloc.Global.{Global}
 use Rattle.std.specs.List.{sum_by}
@@ -26,14 +26,17 @@ use Rattle.patr_library.specs.Built.{AreDealt, HasBlock, IsDealt}
 pub record IsEntryStored (v : Shown) (e k : ℕ) (entry : EntryVariant) (i : EntryItem) : Type 0 where
   pub entry_is : i.entry ≡ e
   pub variant_is : i.variant ≡ k
-  -- the block, its number, the node of the one slot, and what is in that slot
-  pub nodes : List (List Feature)
-  pub number : ℕ
+  -- the least value of one slot, the node of that slot, and what is in the slot
+  pub whole : List (List Feature)
   pub slots : ℕ
   pub to : Ref
+  pub least : IsLeastAt 1 entry.equations whole slots
+  pub slot : arc (own_nodes whole) (Node slots) 0 ≡ Some (own_value to)
+  -- the block, which has the nodes before that node, and its number
+  pub nodes : List (List Feature)
+  pub number : ℕ
+  pub front : nodes ≡ take slots whole
   pub block : HasBlock v number nodes
-  pub least : IsLeastAt 1 entry.equations nodes slots
-  pub slot : arc (own_nodes nodes) (Node slots) 0 ≡ Some (own_value to)
   pub own : IsOwn (length nodes) to
   pub root : value_of v i.root ≡ ref_of v number to
   pub held : ValueIsHeld v i.root

@@ -29,7 +29,7 @@ fn slot_value(block: &Block, root: u32) -> Ref
     requires root { root < length block.now }
     requires slot { HasSlot (own_nodes block.now) (Node root) }
     ensures arc { arc (own_nodes block.now) (Node root) 0 ≡ Some (own_value result) }
-    ensures own { IsOwn (length block.now) result }
+    ensures own { IsOwn root result }
 {
     block.arcs(root)[0].to
 }
@@ -53,10 +53,12 @@ fn keep_variant(
         word: entry.word,
         gloss: entry.gloss,
     });
-    let Some(least) = solved(alloc, start, features, scratch)? else {
+    let Some(mut least) = solved(alloc, start, features, scratch)? else {
         return Ok(());
     };
+    // The node of the slot is of no use any more; what is in the slot stands before it.
     let to = slot_value(&least.block, least.root);
+    least.block.truncate(least.root);
     let made = store(arena, least)?;
     let root = arena.resolve(made.root.block, to);
     items.push(EntryItem {
