@@ -5,8 +5,6 @@ use Rattle.patr_shell.proofs.Outs.{refused_text, session_text, nothing_text, ses
 use Rattle.patr_shell.proofs.Passing.{passes_none}
 use Rattle.patr_shell.proofs.running.run.Goals as goal
 
--- ---- what is written where files and input are told
-
 pub returns-in-Ok-clause-text : goal.returns-in-Ok-clause-text
 returns-in-Ok-clause-text g c =
     session_text (map string_bytes c.args.words.now) _ _ _ _ c.in-Ok.opened.language c.in-Ok.opened.state c.in-Ok.ensures.opened c.in-Ok.ensures.table _ c.run_session.ensures.whole c.run_session.ensures.front
@@ -22,8 +20,6 @@ returns-in-Err-Read-clause-text g c = nothing_text (map string_bytes c.args.word
 pub returns-in-Err-Memory-clause-text : goal.returns-in-Err-Memory-clause-text
 returns-in-Err-Memory-clause-text g c = nothing_text (map string_bytes c.args.words.now) _ _ _ _ refl
 
--- ---- what is taken and written by each status
-
 pub returns-in-Ok-clause-end : goal.returns-in-Ok-clause-end
 returns-in-Ok-clause-end g c =
     session_run (map string_bytes c.args.words.now) _ _ _ _ _ c.in-Ok.opened.language c.in-Ok.opened.state c.in-Ok.ensures.opened c.in-Ok.ensures.table _ c.run_session.ensures.status c.run_session.ensures.end
@@ -37,20 +33,14 @@ returns-in-Err-Read-clause-end g c = inl (refl, refl)
 pub returns-in-Err-Memory-clause-end : goal.returns-in-Err-Memory-clause-end
 returns-in-Err-Memory-clause-end g c = inl (refl, refl)
 
--- ---- what is passed on
-
 pub returns-in-Err-Read-clause-flushed : goal.returns-in-Err-Read-clause-flushed
 returns-in-Err-Read-clause-flushed g c = passes_none _ _ _
 
 pub returns-in-Err-Memory-clause-flushed : goal.returns-in-Err-Memory-clause-flushed
 returns-in-Err-Memory-clause-flushed g c = passes_none _ _ _
 
--- ---- why it ends so
-
 pub returns-in-Ok-clause-cause : goal.returns-in-Ok-clause-cause
 returns-in-Ok-clause-cause g c = session_cause (map string_bytes c.args.words.now) _ _ c.in-Ok.ensures.found c.run_session.ensures.status
-
--- ---- the run is done, or memory was short
 
 pub returns-in-Ok-clause-complete : goal.returns-in-Ok-clause-complete
 returns-in-Ok-clause-complete g c = λ may none.
