@@ -179,11 +179,11 @@ keep_lines s h same made st ws fine fine' x y rx ry =
     let text' : y ≡ L ++ a.1 ++ b.2 = b.6 ∙ ap (λ u. u ++ b.2) (sym one') in
     record {
       analyses = a.0;
+      are = a.3;
+      are_other = are;
       body = a.1;
       tail = a.2;
       other_tail = b.2;
-      are = a.3;
-      are_other = are;
       text = a.6;
       other_text = text';
       counts = a.5;

@@ -60,17 +60,13 @@ fn filled(alloc: Global, text: &[u8], byte: u8, count: usize) -> Result<Vec<u8>,
     Ok(bytes)
 }
 
-/// So many bytes of lines of 4,095 spaces and an LF, the last line as far as it goes.
-fn blank_lines(alloc: Global, count: usize) -> Result<Vec<u8>, Fail> {
-    let mut line = filled(alloc, b"", b' ', 4095)?;
-    line.push(b'\n')?;
+/// So many bytes, of which each 4,096 are this block.
+fn of_blocks(alloc: Global, block: &[u8; 4096], count: usize) -> Result<Vec<u8>, Fail> {
     let mut bytes = Vec::new(alloc);
     for _ in 0..count / 4096 {
-        bytes.extend_from_slice(&line)?;
+        bytes.extend_from_slice(block)?;
     }
-    for byte in line.iter().take(count % 4096) {
-        bytes.push(*byte)?;
-    }
+    bytes.extend_from_slice(&block[..count % 4096])?;
     Ok(bytes)
 }
 
@@ -94,8 +90,11 @@ const LONG_FILES: &[(bool, usize, u8, &[u8])] = &[
 #[test]
 fn long_files_are_refused(rt: HostRuntime) -> Result<(), Fail> {
     let alloc = rt.alloc();
+    // lines of 4,095 spaces
+    let mut line = [b' '; 4096];
+    line[4095] = b'\n';
     for (is_grammar, count, code, written) in LONG_FILES {
-        let long = blank_lines(alloc, *count)?;
+        let long = of_blocks(alloc, &line, *count)?;
         let setting = if *is_grammar {
             well(&long, LEXICON, INPUT)
         } else {
@@ -112,7 +111,7 @@ fn long_files_are_refused(rt: HostRuntime) -> Result<(), Fail> {
 #[test]
 fn long_inputs_are_refused(rt: HostRuntime) -> Result<(), Fail> {
     let alloc = rt.alloc();
-    let input = filled(alloc, b"", b'a', 16_777_217)?;
+    let input = of_blocks(alloc, &[b'a'; 4096], 16_777_217)?;
     let setting = well(GRAMMAR, LEXICON, &input);
     let written = b"error: input longer than 16777216 bytes\n";
     assert!(rt; gives(&rt, alloc, FILES, setting, 7, written)?);

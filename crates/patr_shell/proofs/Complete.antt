@@ -20,13 +20,17 @@ not_long : (o : Option (List ℕ)) (most : ℕ) (bytes : List ℕ) → o ≡ Som
 not_long None most bytes is short long = long
 not_long (Some b) most bytes is short long = let same : b ≡ bytes = some_inj b bytes is in let l = ap length same in omega (arith, l, short, long)
 
+-- what holds of a file's bytes holds of them however they are told
+as_read : (o : Option (List ℕ)) (P : List ℕ → Type 0) (told bytes : List ℕ) → o ≡ Some told → o ≡ Some bytes → P bytes → P told
+as_read o P told bytes here there holds = subst P (some_inj bytes told (sym there ∙ here)) holds
+
 -- two files stand for one grammar and one lexicon, of which the build refuses one thing
 one_fault : (f : Files) (g l : List ℕ) (x y : Option BuildFault) → Builds (Some f) g l x → Builds (Some f) g l y → x ≡ y
 one_fault f g l x y b c =
-    let first : b.grammar_bytes ≡ c.grammar_bytes = some_inj b.grammar_bytes c.grammar_bytes (sym b.grammar_file ∙ c.grammar_file) in
-    let second : b.lexicon_bytes ≡ c.lexicon_bytes = some_inj b.lexicon_bytes c.lexicon_bytes (sym b.lexicon_file ∙ c.lexicon_file) in
-    let rules : b.rules ≡ c.rules = one_grammar stage c.grammar_bytes b.rules c.rules (subst (λ z. ReadsGrammar stage z b.rules) first b.reads_grammar) c.reads_grammar in
-    let entries : b.entries ≡ c.entries = one_lexicon stage c.lexicon_bytes b.entries c.entries (subst (λ z. ReadsLexicon stage z b.entries) second b.reads_lexicon) c.reads_lexicon in
+    let one_text = as_read (get f g) (λ z. ReadsGrammar stage z b.rules) c.grammar_bytes b.grammar_bytes c.grammar_file b.grammar_file b.reads_grammar in
+    let one_list = as_read (get f l) (λ z. ReadsLexicon stage z b.entries) c.lexicon_bytes b.lexicon_bytes c.lexicon_file b.lexicon_file b.reads_lexicon in
+    let rules : b.rules ≡ c.rules = one_grammar stage c.grammar_bytes b.rules c.rules one_text c.reads_grammar in
+    let entries : b.entries ≡ c.entries = one_lexicon stage c.lexicon_bytes b.entries c.entries one_list c.reads_lexicon in
     let between : build_fault b.rules b.entries ≡ build_fault c.rules c.entries = λ i. build_fault (rules i) (entries i) in
     sym b.is ∙ between ∙ c.is
 
@@ -41,35 +45,33 @@ module _ (words : List (List ℕ)) (f : Files) (session : HaveSession words (Som
   one_setup : (s : Setup) → Names words s → s ≡ session.0
   one_setup s named = some_inj s session.0 (sym named ∙ session.1)
 
+  -- the build refuses nothing
+  not_built : (fault : BuildFault) → Builds (Some f) session.0.grammar session.0.lexicon (Some fault) → ⊥
+  not_built fault bad = let e : None ≡ Some fault = one_fault f session.0.grammar session.0.lexicon None (Some fault) session.2 bad in cc
+
   no_bad_grammar : (trouble : GrammarTrouble) → HasBadGrammar (Some f) session.0 trouble → ⊥
   no_bad_grammar grammar_trouble.TooLong bad = not_long (get f session.0.grammar) 4194304 session.2.grammar_bytes session.2.grammar_file session.2.grammar_short bad
   no_bad_grammar (grammar_trouble.Text cause) bad =
-      let same : bad.0 ≡ session.2.grammar_bytes = some_inj bad.0 session.2.grammar_bytes (sym bad.1 ∙ session.2.grammar_file) in
-      no_grammar_fault stage bad.0 (grammar_fault_line (fault_of cause)) session.2.rules (subst (λ b. ReadsGrammar stage b session.2.rules) (sym same) session.2.reads_grammar) (fault_of cause, bad.3, refl)
-  no_bad_grammar (grammar_trouble.Expand cause) bad =
-      let e : None ≡ Some (InGrammar (cause_seen cause)) = one_fault f session.0.grammar session.0.lexicon None (Some (InGrammar (cause_seen cause))) session.2 bad in
-      cc
+      let here = as_read (get f session.0.grammar) (λ b. ReadsGrammar stage b session.2.rules) bad.0 session.2.grammar_bytes bad.1 session.2.grammar_file session.2.reads_grammar in
+      no_grammar_fault stage bad.0 (grammar_fault_line (fault_of cause)) session.2.rules here (fault_of cause, bad.3, refl)
+  no_bad_grammar (grammar_trouble.Expand cause) bad = not_built (InGrammar (cause_seen cause)) bad
 
   no_bad_lexicon : (trouble : LexiconTrouble) → HasBadLexicon (Some f) session.0 trouble → ⊥
   no_bad_lexicon lexicon_trouble.TooLong bad = not_long (get f session.0.lexicon) 16777216 session.2.lexicon_bytes session.2.lexicon_file session.2.lexicon_short bad
-  no_bad_lexicon (lexicon_trouble.Text cause) bad =
-      let same : bad.0 ≡ session.2.lexicon_bytes = some_inj bad.0 session.2.lexicon_bytes (sym bad.1 ∙ session.2.lexicon_file) in
-      no_lexicon_fault stage bad.0 (lexicon_fault_line (lexicon_fault_of cause)) session.2.entries (subst (λ b. ReadsLexicon stage b session.2.entries) (sym same) session.2.reads_lexicon) (lexicon_fault_of cause, bad.3, refl)
-  no_bad_lexicon (lexicon_trouble.Expand cause) bad =
-      let e : None ≡ Some (InLexicon (cause_seen cause)) = one_fault f session.0.grammar session.0.lexicon None (Some (InLexicon (cause_seen cause))) session.2 bad in
-      cc
+  no_bad_lexicon (lexicon_trouble.Text cause) bad = no_lexicon_fault stage bad.0 (lexicon_fault_line (lexicon_fault_of cause)) session.2.entries
+      (as_read (get f session.0.lexicon) (λ b. ReadsLexicon stage b session.2.entries) bad.0 session.2.lexicon_bytes bad.1 session.2.lexicon_file session.2.reads_lexicon)
+      (lexicon_fault_of cause, bad.3, refl)
+  no_bad_lexicon (lexicon_trouble.Expand cause) bad = not_built (InLexicon (cause_seen cause)) bad
+
+  -- a file that is told is not absent
+  not_absent : (name other bytes : List ℕ) → name ≡ other → get f other ≡ Some bytes → get f name ≡ None → ⊥
+  not_absent name other bytes is file gone = let e : None ≡ Some bytes = sym gone ∙ ap (get f) is ∙ file in cc
 
   none_absent : (name : List ℕ) → LooksAt words (Some f) name → get f name ≡ None → ⊥
   none_absent name (grammar s named is) gone =
-      let n : name ≡ session.0.grammar = is ∙ ap (λ (z : Setup). z.grammar) (one_setup s named) in
-      let h : get f session.0.grammar ≡ None = subst (λ z. get f z ≡ None) n gone in
-      let k : None ≡ Some session.2.grammar_bytes = sym h ∙ session.2.grammar_file in
-      cc
+      not_absent name session.0.grammar session.2.grammar_bytes (is ∙ ap (λ (z : Setup). z.grammar) (one_setup s named)) session.2.grammar_file gone
   none_absent name (lexicon s named is other) gone =
-      let n : name ≡ session.0.lexicon = is ∙ ap (λ (z : Setup). z.lexicon) (one_setup s named) in
-      let h : get f session.0.lexicon ≡ None = subst (λ z. get f z ≡ None) n gone in
-      let k : None ≡ Some session.2.lexicon_bytes = sym h ∙ session.2.lexicon_file in
-      cc
+      not_absent name session.0.lexicon session.2.lexicon_bytes (is ∙ ap (λ (z : Setup). z.lexicon) (one_setup s named)) session.2.lexicon_file gone
 
   -- an input within its size, or with a line within it that ends the session, is not too long
   not_too_long : (input : List ℕ) → IsWithin input → (a b : Option (List ℕ)) → HasWritten words f input InputTooLong a b → ⊥

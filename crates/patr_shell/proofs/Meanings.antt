@@ -17,7 +17,7 @@ use Rattle.patr_shell.specs.declared.state.State.{State}
 use Rattle.patr_shell.specs.declared.status.GrammarTrouble.TheVariants as grammar_trouble
 use Rattle.patr_shell.specs.declared.status.LexiconTrouble.TheVariants as lexicon_trouble
 use Rattle.patr_shell.specs.declared.refusal.OpeningFault.{OpeningFault}
-use Rattle.patr_shell.specs.declared.refusal.OpeningFault.TheVariants.{Refused, Read, Memory}
+use Rattle.patr_shell.specs.declared.refusal.OpeningFault.TheVariants.{Refused, Memory}
 use Rattle.patr_shell.specs.declared.refusal.Refusal.TheVariants as refusal
 use Rattle.patr_shell.specs.Loaded.{ReadsGrammar, ReadsLexicon, IsBuiltOf, IsBuildFault}
 

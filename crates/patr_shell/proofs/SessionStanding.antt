@@ -19,13 +19,14 @@ some_line (b ∷ bs) some = refl
 pub last_line_some : (xs : List ℕ) → 0 < length (without_cr xs) → last_line xs ≡ without_cr xs ∷ []
 last_line_some xs some = some_line (without_cr xs) some
 
+-- no LF stands in what is held of bytes without one
+held_free : (part held : List ℕ) → HasNoFeed part → held ≡ take 4098 part → HasNoFeed held
+held_free part held free is = subst HasNoFeed (sym is) (take_is_free 4098 part free)
+
 -- What holds of lines, and so of others whose first is the same as far as it matters.
 module _ (P : List (List ℕ) → Type 0) (like : (xs ys : List ℕ) → take 4098 xs ≡ take 4098 ys → (ls : List (List ℕ)) → P (without_cr xs ∷ ls) → P (without_cr ys ∷ ls)) where
   -- lines go on alike behind bytes of which what matters is the same
   module _ (part held : List ℕ) (free : HasNoFeed part) (is : held ≡ take 4098 part) (piece : List ℕ) where
-    held_free : HasNoFeed held
-    held_free = subst HasNoFeed (sym is) (take_is_free 4098 part free)
-
     same : (ys : List ℕ) → take 4098 (held ++ ys) ≡ take 4098 (part ++ ys)
     same ys = ap (λ (l : List ℕ). take 4098 (l ++ ys)) is ∙ kept_behind 4098 part ys
 
@@ -34,7 +35,7 @@ module _ (P : List (List ℕ) → Type 0) (like : (xs ys : List ℕ) → take 40
     lines_from first (next ∷ rest) h = like (held ++ first) (part ++ first) (same first) (whole_lines_from next rest) h
 
     lines_with : P (whole_lines_of (held ++ piece)) → P (whole_lines_of (part ++ piece))
-    lines_with h = subst P (sym (lines_behind part free piece)) (lines_from (cut piece).first (cut piece).rest (subst P (lines_behind held held_free piece) h))
+    lines_with h = subst P (sym (lines_behind part free piece)) (lines_from (cut piece).first (cut piece).rest (subst P (lines_behind held (held_free part held free is) piece) h))
 
   -- the last line is answered alike
   last_alike : (xs ys : List ℕ) → take 4098 xs ≡ take 4098 ys → P (last_line xs) → P (last_line ys)
@@ -47,22 +48,19 @@ module _ (P : List (List ℕ) → Type 0) (like : (xs ys : List ℕ) → take 40
 
 -- the last piece goes on alike
 module _ (part held : List ℕ) (free : HasNoFeed part) (is : held ≡ take 4098 part) (piece : List ℕ) where
-  held_is_free : HasNoFeed held
-  held_is_free = subst HasNoFeed (sym is) (take_is_free 4098 part free)
-
   piece_from : (first : List ℕ) (rest : List (List ℕ)) → take 4098 (last_of (held ++ first) rest) ≡ take 4098 (last_of (part ++ first) rest)
   piece_from first [] = ap (λ (l : List ℕ). take 4098 (l ++ first)) is ∙ kept_behind 4098 part first
   piece_from first (next ∷ rest) = refl
 
   piece_with : take 4098 (last_piece (held ++ piece)) ≡ take 4098 (last_piece (part ++ piece))
   piece_with =
-      ap (take 4098) (piece_behind held held_is_free piece)
+      ap (take 4098) (piece_behind held (held_free part held free is) piece)
       ∙ piece_from (cut piece).first (cut piece).rest
       ∙ ap (take 4098) (sym (piece_behind part free piece))
 
 module _ (spoken : Spoken) (st mid : State) (bytes held : List ℕ) (a b : Option (List ℕ)) (stands : Stands spoken st mid bytes held a b) where
   pub stands_free : HasNoFeed held
-  stands_free = subst HasNoFeed (sym stands.kept) (take_is_free 4098 (last_piece bytes) (piece_is_free bytes))
+  stands_free = held_free (last_piece bytes) held (piece_is_free bytes) stands.kept
 
   pub stands_short : length held ≤ 4098
   stands_short = subst (λ l. length l ≤ 4098) (sym stands.kept) (omega (arith, length-take 4098 (last_piece bytes)))

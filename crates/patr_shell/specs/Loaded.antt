@@ -21,12 +21,16 @@ use Rattle.patr_shell.specs.declared.refusal.Refusal.TheVariants.{Grammar, Lexic
 abbrev pub IsLoadFault : OpeningFault → Type 0
 IsLoadFault fault = (fault ≡ Read) ⊎ (fault ≡ Memory)
 
--- the file of this name was read as this grammar, by the table
-pub record ReadsGrammar (files : Option Files) (name : List ℕ) (table : List (List ℕ)) (grammar : GrammarText) : Type 0 where
+-- the file of this name has no more than this many bytes, and they stand for what was read, by the table
+pub record IsReadFrom {Y : Type 0} (files : Option Files) (name : List ℕ) (most : ℕ) (StandFor : List (List ℕ) → List ℕ → Y → Type 0) (table : List (List ℕ)) (read : Y) : Type 0 where
   pub bytes : List ℕ
   pub file : HasFile files name bytes
-  pub short : length bytes ≤ 4194304
-  pub stands : StandsFor table bytes grammar
+  pub short : length bytes ≤ most
+  pub stands : StandFor table bytes read
+
+-- the file of this name was read as this grammar, by the table
+abbrev pub ReadsGrammar : Option Files → List ℕ → List (List ℕ) → GrammarText → Type 0
+ReadsGrammar files name table grammar = IsReadFrom files name 4194304 StandsFor table grammar
 
 -- the file of this name was not read as a grammar
 abbrev pub IsGrammarFault : Option Files → List ℕ → OpeningFault → Type 0
@@ -34,11 +38,8 @@ IsGrammarFault files name (Refused (Grammar trouble)) = IsNoGrammar files name t
 IsGrammarFault files name fault = IsLoadFault fault
 
 -- the file of this name was read as these entries, by the table
-pub record ReadsLexicon (files : Option Files) (name : List ℕ) (table : List (List ℕ)) (entries : List Entry) : Type 0 where
-  pub bytes : List ℕ
-  pub file : HasFile files name bytes
-  pub short : length bytes ≤ 16777216
-  pub stands : StandForEntries table bytes entries
+abbrev pub ReadsLexicon : Option Files → List ℕ → List (List ℕ) → List Entry → Type 0
+ReadsLexicon files name table entries = IsReadFrom files name 16777216 StandForEntries table entries
 
 -- the file of this name was not read as a lexicon
 abbrev pub IsLexiconFault : Option Files → List ℕ → OpeningFault → Type 0

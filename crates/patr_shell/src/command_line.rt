@@ -252,20 +252,6 @@ mod tests {
     use super::*;
     use std::test::Fail;
 
-    /// The setup of the words that spaces part.
-    fn shown(alloc: Global, text: &str) -> Result<String, Fail> {
-        let mut words = Vec::new(alloc);
-        for word in text.split(' ') {
-            words.push(String::from_str(alloc, word)?)?;
-        }
-        match read_setup(alloc, &words)? {
-            Some(setup) => {
-                Ok(format!(in alloc; "{} {} {}", setup.grammar, setup.lexicon, setup.limit)?)
-            }
-            None => Ok(String::from_str(alloc, "refused")?),
-        }
-    }
-
     /// Words, and the names and the limit that they give.
     const ROWS: &[(&str, &str)] = &[
         ("g l", "g l 20000"),
@@ -293,6 +279,20 @@ mod tests {
         ("--workers --limit 5 g l", "refused"),
         ("g l --worker=4", "refused"),
     ];
+
+    /// The setup of the words that spaces part.
+    fn shown(alloc: Global, text: &str) -> Result<String, Fail> {
+        let mut words = Vec::new(alloc);
+        for word in text.split(' ') {
+            words.push(String::from_str(alloc, word)?)?;
+        }
+        match read_setup(alloc, &words)? {
+            Some(setup) => {
+                Ok(format!(in alloc; "{} {} {}", setup.grammar, setup.lexicon, setup.limit)?)
+            }
+            None => Ok(String::from_str(alloc, "refused")?),
+        }
+    }
 
     #[test]
     fn words_give_a_setup(rt: HostRuntime) -> Result<(), Fail> {

@@ -1,6 +1,6 @@
 //! Why a run ends before its session.
-ghost use Rattle.std.specs.Prelude.{◌≡◌, ◌++◌, IfOk, codes, string_bytes};
-ghost use Rattle.patr_model.specs.Faults.{at_line, at_place};
+ghost use Rattle.std.specs.Prelude.{◌≡◌, [], ◌∷◌, ◌++◌, IfOk, codes, decimal, string_bytes};
+ghost use Rattle.patr_model.specs.Faults.{of_file, at_line, at_place};
 ghost use Rattle.patr_model.specs.Build.{TooManyEquations, size_fault_line};
 ghost use Rattle.patr_expand.specs.Seen.{cause_seen};
 ghost use Rattle.patr_model.specs.GrammarText.{grammar_fault_line, what_text};
@@ -59,6 +59,18 @@ impl From<AllocError> for OpeningFault {
     }
 }
 
+/// The line of which this is the beginning, up to what is wrong.
+fn line_on(begun: String, what: &str) -> Result<String, Memory>
+    ensures { IfOk result (λ text. string_bytes text
+        ≡ string_bytes begun ++ codes ": " ++ what.now ++ 10 ∷ []) }
+{
+    let mut text = begun;
+    text.push_str(": ")?;
+    text.push_str(what)?;
+    text.push('\n')?;
+    Ok(text)
+}
+
 /// The line on a place of this file, `grammar` or `lexicon`.
 fn line_at_place(
     alloc: Global,
@@ -70,12 +82,10 @@ fn line_at_place(
     ensures { IfOk result (λ text. string_bytes text
         ≡ at_place file.now (record { line = line; column = column }) what.now) }
 {
-    let mut text = format!(in alloc; "error: {file} {line}")?;
-    let column = format!(in alloc; ":{column}: ")?;
-    text.push_str(column.as_str())?;
-    text.push_str(what)?;
-    text.push('\n')?;
-    Ok(text)
+    let mut begun = format!(in alloc; "error: {file} {line}")?;
+    let column = format!(in alloc; ":{column}")?;
+    begun.push_str(column.as_str())?;
+    line_on(begun, what)
 }
 
 /// The line on a place of this file where something else is expected.
@@ -93,14 +103,22 @@ fn expected_line(
     line_at_place(alloc, file, line, column, expected.as_str())
 }
 
+/// The line on bytes of this file that are no text.
+fn not_utf8_line(alloc: Global, file: &'static str, at: u64) -> Result<String, Memory>
+    ensures { IfOk result (λ text. string_bytes text
+        ≡ of_file file.now (codes "not UTF-8 at byte " ++ decimal at)) }
+{
+    let begun = format!(in alloc; "error: {file}")?;
+    let what = format!(in alloc; "not UTF-8 at byte {at}")?;
+    line_on(begun, what.as_str())
+}
+
 /// The line that refuses a grammar's text.
 fn grammar_line(alloc: Global, cause: GrammarCause) -> Result<String, Memory>
     ensures { IfOk result (λ text. string_bytes text ≡ grammar_fault_line (fault_of cause)) }
 {
     match cause {
-        GrammarCause::NotUtf8 { at } => {
-            format!(in alloc; "error: grammar: not UTF-8 at byte {at}\n")
-        }
+        GrammarCause::NotUtf8 { at } => not_utf8_line(alloc, "grammar", at),
         GrammarCause::BadToken { line, column } => {
             line_at_place(alloc, "grammar", line, column, "bad character")
         }
@@ -129,23 +147,21 @@ fn lexicon_line(alloc: Global, cause: LexiconCause) -> Result<String, Memory>
         string_bytes text ≡ lexicon_fault_line (lexicon_fault_of cause)) }
 {
     match cause {
-        LexiconCause::NotUtf8 { at } => {
-            format!(in alloc; "error: lexicon: not UTF-8 at byte {at}\n")
-        }
+        LexiconCause::NotUtf8 { at } => not_utf8_line(alloc, "lexicon", at),
         LexiconCause::BadToken { line, column } => {
             line_at_place(alloc, "lexicon", line, column, "bad character")
         }
         LexiconCause::NoWord { line } => line_at(alloc, "lexicon", line, "no word"),
         LexiconCause::SeveralWords { line } => line_at(alloc, "lexicon", line, "several words"),
         LexiconCause::NoCategory { line } => line_at(alloc, "lexicon", line, "no category"),
-        LexiconCause::Expected { line, column, what } => {
-            expected_line(alloc, "lexicon", line, column, &what)
-        }
         LexiconCause::PathTooLong { line, column } => {
             line_at_place(alloc, "lexicon", line, column, "path too long")
         }
         LexiconCause::LaterForm { line, column } => {
             line_at_place(alloc, "lexicon", line, column, "not built yet")
+        }
+        LexiconCause::Expected { line, column, what } => {
+            expected_line(alloc, "lexicon", line, column, &what)
         }
     }
 }
@@ -154,11 +170,8 @@ fn lexicon_line(alloc: Global, cause: LexiconCause) -> Result<String, Memory>
 fn line_at(alloc: Global, file: &'static str, line: u32, what: &str) -> Result<String, Memory>
     ensures { IfOk result (λ text. string_bytes text ≡ at_line file.now line what.now) }
 {
-    let mut text = format!(in alloc; "error: {file} {line}")?;
-    text.push_str(": ")?;
-    text.push_str(what)?;
-    text.push('\n')?;
-    Ok(text)
+    let begun = format!(in alloc; "error: {file} {line}")?;
+    line_on(begun, what)
 }
 
 /// The line that refuses a rule or an entry of this file that has so many equations.

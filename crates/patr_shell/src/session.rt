@@ -45,6 +45,17 @@ pub enum AnswerFault {
     Memory,
 }
 
+impl From<AnswerFault> for Status {
+    ghost from_gives = { λ fault status. status ≡ answer_status fault };
+
+    fn from(fault: AnswerFault) -> Self {
+        match fault {
+            AnswerFault::Write => Status::WriteFault,
+            AnswerFault::Memory => Status::Memory,
+        }
+    }
+}
+
 impl From<Failed> for AnswerFault {
     ghost from_gives = { λ _ fault. fault ≡ Write };
 
@@ -58,17 +69,6 @@ impl From<AllocError> for AnswerFault {
 
     fn from(_: AllocError) -> Self {
         AnswerFault::Memory
-    }
-}
-
-impl From<AnswerFault> for Status {
-    ghost from_gives = { λ fault status. status ≡ answer_status fault };
-
-    fn from(fault: AnswerFault) -> Self {
-        match fault {
-            AnswerFault::Write => Status::WriteFault,
-            AnswerFault::Memory => Status::Memory,
-        }
     }
 }
 

@@ -216,15 +216,16 @@ decide_unifier L l p R r sl hl sr hr =
     let path = path_there p in
     let E : Pointed = path.0 in
     let stands = equations.paths p p E path.1 in
+    let with_path : (G : Structure) (g : Value) → TakesBoth L l p R r G g → TakesBoth L l [] E.nodes E.root G g = λ G g t. record {
+      structure = t.structure;
+      held = t.held;
+      left = t.left;
+      place = g;
+      there = refl;
+      right = stands.maps G g t.structure t.held (t.place, t.there, t.there);
+    } in
     elim (decide_at L l [] E.nodes E.root l sl hl stands.structure stands.held refl) [
-      | inr none ↦ inr (λ G g t. none G g (record {
-        structure = t.structure;
-        held = t.held;
-        left = t.left;
-        place = g;
-        there = refl;
-        right = stands.maps G g t.structure t.held (t.place, t.there, t.there);
-      }))
+      | inr none ↦ inr (λ G g t. none G g (with_path G g t))
       | inl u ↦
           let takes = u.2.takes in
           let root : takes.place ≡ u.1 = sym (some_inj u.1 takes.place takes.there) in
@@ -232,14 +233,7 @@ decide_unifier L l p R r sl hl sr hr =
           let onto : (G : Structure) (g : Value) → TakesBoth L l p R r G g → TakesBoth u.0 u.1 p R r G g = λ G g t. record {
             structure = t.structure;
             held = t.held;
-            left = u.2.least G g (record {
-              structure = t.structure;
-              held = t.held;
-              left = t.left;
-              place = g;
-              there = refl;
-              right = stands.maps G g t.structure t.held (t.place, t.there, t.there);
-            });
+            left = u.2.least G g (with_path G g t);
             place = t.place;
             there = t.there;
             right = t.right;
