@@ -12,7 +12,7 @@ decide-requires-clause-room g c =
     decision_room v sv c.make_room.new.self (number_of v at.block at.offset) (value_of v c.args.pair.right)
     (held_below v sv at.block at.offset c.requires.left) (value_below v sv c.args.pair.right c.requires.right)
     c.args.pair.reach.nodes c.args.pair.reach.arcs c.requires.within
-    (subst (λ n. HasRoom c.make_room.new.self n c.args.pair.reach.nodes c.args.pair.reach.arcs) c.count.ensures c.in_ok.ensures.room)
+    (subst (λ n. HasRoom c.make_room.new.self n c.args.pair.reach.nodes c.args.pair.reach.arcs) c.count.ensures c.in_ok-make_room.ensures.room)
 
 pub returns-in-Solvable-clause-some : goal.returns-in-Solvable-clause-some
 returns-in-Solvable-clause-some g c = λ u. c.in-Solvable.ensures.solvable refl
