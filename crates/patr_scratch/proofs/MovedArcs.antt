@@ -8,8 +8,8 @@ use Rattle.patr_scratch.specs.declared.arc.ArcCell.{ArcCell}
 use Rattle.patr_scratch.specs.declared.Place.{Place}
 use Rattle.patr_scratch.specs.declared.Side.{Side}
 use Rattle.patr_scratch.specs.declared.Target.{Target}
-use Rattle.patr_scratch.specs.declared.table.Ends.{Ends}
-use Rattle.patr_scratch.specs.declared.table.Mark.{Mark}
+use Rattle.patr_scratch.specs.declared.packed.Ends.{Ends}
+use Rattle.patr_scratch.specs.Marks.{Mark}
 use Rattle.patr_scratch.specs.Cells.{no_cell, cell_at, relink, read}
 use Rattle.patr_scratch.specs.WithRoom.{WithRoom}
 use Rattle.patr_scratch.specs.Marks.{mark_at, blank}

@@ -3,8 +3,8 @@ use Rattle.std.proofs.Common.{◌≡◌, ◌≢◌, ℕ, zero, suc, ◌+◌, ◌
 use Rattle.std.specs.List.{All}
 use Rattle.std.specs.Option.{SomeIff, unwrap_or}
 use Rattle.patr_scratch.specs.declared.table.Cell.{Cell}
-use Rattle.patr_scratch.specs.declared.table.Mark.{Mark}
-use Rattle.patr_scratch.specs.Marks.{blank, mark_at, no_marks}
+use Rattle.patr_scratch.specs.declared.packed.PackedMark.{PackedMark}
+use Rattle.patr_scratch.specs.Marks.{Mark, blank, mark_at, no_marks, unpacked}
 use Rattle.std.proofs.lemmas.List.{map-append, take_all, map-set, length-replicate}
 use Rattle.patr_scratch.specs.Stamps.{mark_of, marks_of}
 use Rattle.std.proofs.lemmas.List.Elements.{All-head, All-tail, All-weaker}
@@ -15,7 +15,7 @@ later_none stamp [] h = refl
 later_none stamp (c ∷ cs) h =
     let head : c.stamp < stamp = All-head (λ c. c.stamp < stamp) c cs h in
     let n : c.stamp ≢ stamp = omega arith in
-    ap (λ b. cond b c.mark blank ∷ marks_of stamp cs) (ne_eqb c.stamp stamp n)
+    ap (λ b. cond b (unpacked c.mark) blank ∷ marks_of stamp cs) (ne_eqb c.stamp stamp n)
     ∙ ap (λ ms. blank ∷ ms) (later_none stamp cs (All-tail (λ c. c.stamp < stamp) c cs h))
 
 mark_read : (stamp : ℕ) (cells : List Cell) (k : ℕ) (c : Cell) → k < length cells → c ≡ get_or cells k c → mark_of stamp c ≡ mark_at (marks_of stamp cells) k
@@ -31,12 +31,13 @@ pub marks_length : (stamp : ℕ) (cells : List Cell) (ms : List Mark) → marks_
 marks_length stamp cells ms e = sym (length_marks stamp cells) ∙ ap length e
 
 -- a cell becomes one of the present generation, and its mark is changed
-pub marks_changed : (stamp : ℕ) (cells : List Cell) (ms : List Mark) (k : ℕ) (old new : Cell) (f : Mark → Mark) → marks_of stamp cells ≡ ms → k < length ms → old ≡ get_or cells k old → new ≡ record { stamp = stamp; mark = mark_of stamp old }
-    → marks_of stamp (set cells k (record { stamp = new.stamp; mark = f new.mark })) ≡ set ms k (f (mark_at ms k))
-marks_changed stamp cells ms k old new f e l q r =
+pub marks_changed : (stamp : ℕ) (cells : List Cell) (ms : List Mark) (k : ℕ) (old renewed : Cell) (new : PackedMark) (f : Mark → Mark) → marks_of stamp cells ≡ ms → k < length ms → old ≡ get_or cells k old
+    → renewed.stamp ≡ stamp → unpacked renewed.mark ≡ mark_of stamp old → unpacked new ≡ f (unpacked renewed.mark)
+    → marks_of stamp (set cells k (record { stamp = renewed.stamp; mark = new })) ≡ set ms k (f (mark_at ms k))
+marks_changed stamp cells ms k old renewed new f e l q s r w =
     let read = mark_read stamp cells k old (omega (arith, l, marks_length stamp cells ms e)) q in
-    map-set (mark_of stamp) cells k (record { stamp = new.stamp; mark = f new.mark })
-    ∙ (ap (set (marks_of stamp cells) k) (ap (λ b. cond b (f new.mark) blank) (eq-eqb new.stamp stamp (ap (λ (c : Cell). c.stamp) r)) ∙ ap (λ (c : Cell). f c.mark) r ∙ ap f read)
+    map-set (mark_of stamp) cells k (record { stamp = renewed.stamp; mark = new })
+    ∙ (ap (set (marks_of stamp cells) k) (ap (λ b. cond b (unpacked new) blank) (eq-eqb renewed.stamp stamp s) ∙ w ∙ ap f (r ∙ read))
     ∙ ap (λ us. set us k (f (mark_at us k))) e)
 
 -- a later generation
@@ -50,7 +51,7 @@ all_later cells m n h l = All-weaker (λ c. c.stamp ≤ m) (λ c. c.stamp < n) (
 marks_replicate : (stamp n : ℕ) (c : Cell) → c.stamp ≢ stamp → marks_of stamp (replicate n c) ≡ no_marks n
 marks_replicate stamp zero c h = refl
 marks_replicate stamp (suc n) c h =
-    ap (λ b. cond b c.mark blank ∷ marks_of stamp (replicate n c)) (ne_eqb c.stamp stamp h)
+    ap (λ b. cond b (unpacked c.mark) blank ∷ marks_of stamp (replicate n c)) (ne_eqb c.stamp stamp h)
     ∙ ap (λ ms. blank ∷ ms) (marks_replicate stamp n c h)
 
 -- every cell is cleared

@@ -7,7 +7,7 @@ use Rattle.patr_scratch.specs.declared.Place.{Place}
 use Rattle.patr_scratch.specs.declared.Side.{Side}
 use Rattle.patr_scratch.specs.declared.Side.TheVariants as side
 use Rattle.patr_scratch.specs.declared.Target.{Target}
-use Rattle.patr_scratch.specs.declared.table.Mark.{Mark}
+use Rattle.patr_scratch.specs.Marks.{Mark}
 use Rattle.patr_scratch.specs.Cells.{no_cell, cell_at, link_at, read}
 use Rattle.patr_scratch.specs.WithRoom.{WithRoom}
 use Rattle.patr_scratch.specs.Marks.{mark_at, blank, no_marks}

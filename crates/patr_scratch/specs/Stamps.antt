@@ -1,12 +1,11 @@
 -- Which marks are of the present generation.
 use Rattle.std.specs.Prelude.{ℕ, ◌≤◌, cond, nat_eq, List, map, All}
 use Rattle.patr_scratch.specs.declared.table.Cell.{Cell}
-use Rattle.patr_scratch.specs.declared.table.Mark.{Mark}
-use Rattle.patr_scratch.specs.Marks.{blank}
+use Rattle.patr_scratch.specs.Marks.{Mark, blank, unpacked}
 
 -- the mark of a cell, if this generation set it
 abbrev pub mark_of : ℕ → Cell → Mark
-mark_of stamp c = cond (nat_eq c.stamp stamp) c.mark blank
+mark_of stamp c = cond (nat_eq c.stamp stamp) (unpacked c.mark) blank
 
 -- the marks of all cells in this generation
 abbrev pub marks_of : ℕ → List Cell → List Mark

@@ -12,6 +12,7 @@
 #![tactic(auto)]
 
 mod arc;
+mod packed;
 mod scratch;
 mod stack;
 mod table;

@@ -4,14 +4,15 @@ ghost use Rattle.patr_scratch.specs.Linked.{first_of, last_or};
 ghost use Rattle.patr_scratch.specs.Contents.{HasPlace, HasCell, HasRoom, IsArcOf, IsBlank, IsCell, KeepsRoom, no_room, begun, first_cell, marks, put, with_arc, with_moved};
 
 use crate::arc::ArcCell;
+use crate::packed::Ends;
 use crate::stack::Stack;
-use crate::table::{Ends, Table};
+use crate::table::Table;
 use crate::{Added, Copied, Memory, Place, Side, Target, Visit};
 use std::alloc::{AllocError, Global};
 use std::marker::Model;
 use std::mem::size_of;
 
-/// The marks of a unification, in room that `reserve` took. A place takes 56 bytes on each side, an added arc 28, a pair
+/// The marks of a unification, in room that `reserve` took. A place takes 32 bytes on each side, an added arc 28, a pair
 /// 32, a visit 12 and a place that a walk has left 12.
 ///
 /// A call that takes a side and a number speaks of the place with this number on this side. Condition: the number is
@@ -172,7 +173,7 @@ impl Scratch {
         requires { HasPlace self.now side number }
         ensures { result ≡ (marks self.now side number).forward }
     {
-        self.table.get(self.table.slot(side, number)).forward
+        self.table.get(self.table.slot(side, number)).forward()
     }
 
     /// Forwards the place to `to`.
@@ -189,7 +190,7 @@ impl Scratch {
         requires { HasPlace self.now side number }
         ensures { result ≡ first_cell (marks self.now side number).added }
     {
-        seen(first_of(self.table.get(self.table.slot(side, number)).added))
+        seen(first_of(self.table.get(self.table.slot(side, number)).added()))
     }
 
     /// The arc in a cell, and the cell of the next arc of the same place. Condition: the cell is in the list of some
@@ -213,10 +214,10 @@ impl Scratch {
         ensures { self.new ≡ with_arc self.old side number attribute to }
     {
         let slot = self.table.slot(side, number);
-        let mark = self.table.get(slot);
+        let added = self.table.get(slot).added();
         let cell = self.arcs.len();
-        let next = first_of(mark.added);
-        let last = last_or(mark.added, cell);
+        let next = first_of(added);
+        let last = last_or(added, cell);
         self.arcs.push(ArcCell {
             attribute,
             to,
@@ -235,13 +236,13 @@ impl Scratch {
     {
         let from_slot = self.table.slot(from_side, from);
         let to_slot = self.table.slot(to_side, to);
-        let source = self.table.get(from_slot);
-        let Some(moved) = source.added else {
+        let source = self.table.get(from_slot).added();
+        let Some(moved) = source else {
             return;
         };
-        let target = self.table.get(to_slot);
-        let next = first_of(target.added);
-        let last = last_or(target.added, moved.last);
+        let target = self.table.get(to_slot).added();
+        let next = first_of(target);
+        let last = last_or(target, moved.last);
         let joint = self.arcs.get(moved.last as usize);
         self.arcs
             .set(moved.last as usize, ArcCell { next, ..joint });
@@ -255,7 +256,7 @@ impl Scratch {
         requires { HasPlace self.now side number }
         ensures { result ≡ (marks self.now side number).copied }
     {
-        self.table.get(self.table.slot(side, number)).copied
+        self.table.get(self.table.slot(side, number)).copied()
     }
 
     /// Says what the place was copied to.
@@ -272,7 +273,7 @@ impl Scratch {
         requires { HasPlace self.now side number }
         ensures { result ≡ (marks self.now side number).visit }
     {
-        self.table.get(self.table.slot(side, number)).visit
+        self.table.get(self.table.slot(side, number)).visit()
     }
 
     /// Says how far a walk is with the place.

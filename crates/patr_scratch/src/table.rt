@@ -1,65 +1,41 @@
 //! A cell of marks for each place, the two sides' places taking turns; a mark stands only in the generation that set it.
 ghost use Rattle.std.specs.Prelude.{◌≡◌, ◌<◌, ◌≤◌, ◌-◌, ◌++◌, [], IfOk, Some, length, set};
-ghost use Rattle.patr_scratch.specs.Marks.{mark_at, no_marks};
+ghost use Rattle.patr_scratch.specs.Marks.{mark_at, no_marks, unpacked};
 ghost use Rattle.patr_scratch.specs.Stamps.{mark_of};
 ghost use Rattle.patr_scratch.specs.Contents.{slot};
 
+use crate::packed::{Ends, PackedMark};
 use crate::{Copied, Memory, Side, Target, Visit};
 use std::alloc::Global;
 use std::marker::Model;
 use std::mem::size_of;
 
-/// The first and the last cell of a list of added arcs.
-#[derive(Clone, Copy)]
-pub(crate) struct Ends {
-    pub(crate) first: u32,
-    pub(crate) last: u32,
-}
-
-/// What was set at a place.
-#[derive(Clone, Copy)]
-pub(crate) struct Mark {
-    pub(crate) forward: Option<Target>,
-    pub(crate) copied: Option<Copied>,
-    pub(crate) visit: Visit,
-    pub(crate) added: Option<Ends>,
-}
-
-impl Mark {
-    /// The mark of a place where nothing was set.
-    pub(crate) const BLANK: Mark = Mark {
-        forward: None,
-        copied: None,
-        visit: Visit::Unseen,
-        added: None,
-    };
-}
-
 /// A mark, and the generation that set it: generation 0 set none.
 #[derive(Clone, Copy)]
 struct Cell {
     stamp: u32,
-    mark: Mark,
+    mark: PackedMark,
 }
 
-// A place takes 56 bytes.
-const _: () = prove!(size_of::<Cell>() == 56);
+// A place takes 32 bytes.
+const _: () = prove!(size_of::<Cell>() == 32);
 
 impl Cell {
     /// A cell that no generation has written.
     const BLANK: Cell = Cell {
         stamp: 0,
-        mark: Mark::BLANK,
+        mark: PackedMark::BLANK,
     };
 
     /// Makes it a cell of this generation, which has what the generation set there.
     fn renew(&mut self, stamp: u32)
-        ensures { self.new ≡ record { stamp = stamp; mark = mark_of stamp self.old } }
+        ensures stamp { self.new.stamp ≡ stamp }
+        ensures mark { unpacked self.new.mark ≡ mark_of stamp self.old }
     {
         if self.stamp != stamp {
             *self = Cell {
                 stamp,
-                mark: Mark::BLANK,
+                mark: PackedMark::BLANK,
             };
         }
     }
@@ -74,7 +50,7 @@ pub(crate) struct Table {
 
 impl Model for Table {
     ghost use Rattle.std.specs.Prelude.{ℕ, List};
-    ghost use Rattle.patr_scratch.specs.declared.table.Mark.{Mark};
+    ghost use Rattle.patr_scratch.specs.Marks.{Mark};
 
     ghost Value = { List Mark };
 
@@ -130,15 +106,15 @@ impl Table {
     }
 
     /// What this generation set there.
-    pub(crate) fn get(&self, slot: usize) -> &Mark
+    pub(crate) fn get(&self, slot: usize) -> &PackedMark
         requires { slot < length self.now }
-        ensures { result.now ≡ mark_at self.now slot }
+        ensures { unpacked result.now ≡ mark_at self.now slot }
     {
         let cell = &self.cells[slot];
         if cell.stamp == self.stamp {
             &cell.mark
         } else {
-            &Mark::BLANK
+            &PackedMark::BLANK
         }
     }
 
@@ -150,7 +126,7 @@ impl Table {
     {
         let cell = &mut self.cells[slot];
         cell.renew(self.stamp);
-        cell.mark.added = added;
+        cell.mark.set_added(added);
     }
 
     /// Sets a forward in this generation, and keeps what else it set there.
@@ -161,7 +137,7 @@ impl Table {
     {
         let cell = &mut self.cells[slot];
         cell.renew(self.stamp);
-        cell.mark.forward = Some(to);
+        cell.mark.set_forward(to);
     }
 
     /// Sets a copy in this generation, and keeps what else it set there.
@@ -172,7 +148,7 @@ impl Table {
     {
         let cell = &mut self.cells[slot];
         cell.renew(self.stamp);
-        cell.mark.copied = Some(made);
+        cell.mark.set_copied(made);
     }
 
     /// Sets a visit in this generation, and keeps what else it set there.
@@ -183,7 +159,7 @@ impl Table {
     {
         let cell = &mut self.cells[slot];
         cell.renew(self.stamp);
-        cell.mark.visit = state;
+        cell.mark.set_visit(state);
     }
 
     /// Takes room for at least so many places. The new ones have no mark. Fails for want of memory alone, and then the

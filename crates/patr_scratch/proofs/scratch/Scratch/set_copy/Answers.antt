@@ -1,6 +1,6 @@
 use Rattle.std.proofs.Common.{Some, refl}
 use Rattle.patr_scratch.specs.Contents.{PlaceMarks}
-use Rattle.patr_scratch.specs.declared.table.Mark.{Mark}
+use Rattle.patr_scratch.specs.Marks.{Mark}
 use Rattle.patr_scratch.proofs.Views.{mark_changed}
 use Rattle.patr_scratch.proofs.scratch.Scratch.set_copy.Goals as goal
 

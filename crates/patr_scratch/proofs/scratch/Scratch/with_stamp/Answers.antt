@@ -1,6 +1,6 @@
 use Rattle.std.proofs.Common.{List, [], sym, subst}
 use Rattle.patr_scratch.specs.declared.arc.ArcCell.{ArcCell}
-use Rattle.patr_scratch.specs.declared.table.Mark.{Mark}
+use Rattle.patr_scratch.specs.Marks.{Mark}
 use Rattle.patr_scratch.specs.WithRoom.{WithRoom}
 use Rattle.patr_scratch.specs.Linked.{IsLinked}
 use Rattle.patr_scratch.proofs.Views.{linked_blank}
