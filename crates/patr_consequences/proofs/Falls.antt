@@ -1,5 +1,5 @@
 -- A chart that falls as its restrictor grows: S -> A and X -> A, where X is not what S is followed by.
-use Rattle.std.proofs.Common.{◌≡◌, ◌⊎◌, inl, inr, ℕ, zero, suc, List, [], ◌∷◌, length, Some, None, option_and_then, slice_get, ◌<◌, refl, sym, ap, ◌∙◌, arith, subst}
+use Rattle.std.proofs.Common.{◌≡◌, ◌⊎◌, inl, inr, ℕ, zero, suc, nat_eq, List, [], ◌∷◌, length, Some, None, option_and_then, slice_get, ◌<◌, refl, sym, ap, ◌∙◌, arith, subst}
 use Rattle.patr_model.specs.Derivation.{Rules, RuleVariant, Derivation, Leaf, Begin, Extend, rule_variant, seen, IsPartial, IsComplete}
 use Rattle.patr_model.specs.Solution.{IsSolvable}
 use Rattle.patr_model.specs.Chart.{InChart}
@@ -34,7 +34,7 @@ abbrev keys : Keys
 keys = record { cat = 0; lex = 4; gloss = 5 }
 
 abbrev with : List (List ℕ) → Rules
-with paths = build (λ n. n) keys (written paths) []
+with paths = build (λ n. n) nat_eq keys (written paths) []
 
 abbrev g : Rules
 g = with []
@@ -49,10 +49,10 @@ back : SameButRestrictor h g
 back = record { rules = refl; entries = refl; start = refl }
 
 ready_g : AreReady g 0
-ready_g = builds_are_ready g 0 (are_built (λ n. n) keys (written []) [])
+ready_g = builds_are_ready g 0 (are_built (λ n. n) nat_eq keys (written []) [])
 
 ready_h : AreReady h 0
-ready_h = builds_are_ready h 0 (are_built (λ n. n) keys (written ((0 ∷ []) ∷ [])) [])
+ready_h = builds_are_ready h 0 (are_built (λ n. n) nat_eq keys (written ((0 ∷ []) ∷ [])) [])
 
 -- what the rules of a category come to
 abbrev variant_of : ℕ → RuleVariant

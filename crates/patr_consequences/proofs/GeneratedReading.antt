@@ -19,7 +19,8 @@ use Rattle.patr_model.specs.GrammarText as grammar_text_of
 use Rattle.patr_model.specs.LexiconLines.{line_at, numbered as numbered_lines, behind, control, or_later, bad_token, Field, Fields, fields_of}
 use Rattle.patr_model.specs.LexiconText as lexicon
 use Rattle.patr_model.specs.LexiconText.{trimmed_front, trimmed, spaced, field_text, Record, Records, is_known, field_before, records_of, EntryText, EntryFault, one_word, entry, entries, read_records, read_fields, of_result, unless_bad, reading}
-use Rattle.patr_model.specs.Build.{in_lexicon, entries_fault, build_fault}
+use Rattle.patr_model.specs.Bytes.{same_text}
+use Rattle.patr_model.specs.Build.{entries_fault, grammar_first, build_fault}
 use Rattle.patr_model.proofs.PlainWords.{Misses, whole_cut, front_cut, IsPlain, plain_all, plain_no_line, plain_no_blank, word_trimmed, control_none}
 use Rattle.patr_consequences.specs.Generator as generator
 use Rattle.patr_consequences.specs.Generator.{generated_grammar, generated_entries, generated_sentence, numbered, grammar_text, entry_text, lexicon_text, sentence_text, GeneratedTextsAreRead}
@@ -222,12 +223,12 @@ lexicon_utf8 (w ∷ ws) a = IsUtf8-append (entry_text w) (lexicon_text ws)
 
 -- ---- sizes
 
-entries_fit : (word : ℕ → List ℕ) (k n : ℕ) → entries_fault (generator.from (generator.entry word) k n) ≡ None
+entries_fit : (word : ℕ → List ℕ) (k n : ℕ) → entries_fault same_text [] (generator.from (generator.entry word) k n) ≡ None
 entries_fit word k zero = refl
 entries_fit word k (suc n) = entries_fit word (suc k) n
 
-all_fits : (word : ℕ → List ℕ) (n : ℕ) → build_fault generated_grammar (generated_entries word n) ≡ None
-all_fits word n = ap in_lexicon (entries_fit word 0 n)
+all_fits : (word : ℕ → List ℕ) (n : ℕ) → build_fault same_text generated_grammar (generated_entries word n) ≡ None
+all_fits word n = ap (λ f. grammar_first None f) (entries_fit word 0 n)
 
 pub texts_read : GeneratedTextsAreRead
 texts_read s e n h =

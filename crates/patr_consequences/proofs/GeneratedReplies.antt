@@ -9,6 +9,7 @@ use Rattle.patr_model.specs.Derivation.{Rules, Derivation, entry_variant, key}
 use Rattle.patr_model.specs.Solved.{solved}
 use Rattle.patr_model.specs.Session.{Numbering, Grounds, State, look_of, line, IsKnown, number_before, numbers, Rises, AreAnalyses, ListsAnalyses, CountsEdges, ListsAll, IsSentenceReply, too_long, unknown, too_many, analyses}
 use Rattle.patr_model.specs.Text.{tree_text, open_tree, entry_category, entry_word, printed, is_bare, goes_on, begins_with_greater, escaped}
+use Rattle.patr_model.specs.Bytes.{same_text}
 use Rattle.patr_model.specs.Build.{keys_of}
 use Rattle.patr_model.proofs.StatedCategories.{are_built}
 use Rattle.patr_totality.specs.Laws.{AreReady}
@@ -137,7 +138,7 @@ module _ (N : Numbering) (n : ℕ) (some : 0 < n) (small : n < 2 ^ 64) (st : Sta
       ∙ ap (λ e. line (codes "analyses 1") ++ line (codes "1 " ++ bracketed (generated_sentence numbered n)) ++ e) lines.1))
 
   ready : AreReady s'.rules (cat_in N)
-  ready = builds_are_ready s'.rules (cat_in N) (are_built N.number (keys_of N) generator.generated_grammar (generated_entries numbered n))
+  ready = builds_are_ready s'.rules (cat_in N) (are_built N.number same_text (keys_of N) generator.generated_grammar (generated_entries numbered n))
 
   pub replied : IsReplied N n st
   replied = record {

@@ -20,6 +20,7 @@ use Rattle.patr_model.proofs.StatedCategories.{are_built}
 use Rattle.patr_model.proofs.Wholes.{solved_go_by_category}
 use Rattle.patr_totality.proofs.Charts.{edge_derivation, edge_solvable, edge_least, drops_none}
 use Rattle.patr_model.specs.Session.{Numbering}
+use Rattle.patr_model.specs.Bytes.{same_text}
 use Rattle.patr_model.specs.Build.{keys_of, rule_variants, entry_variants}
 use Rattle.patr_consequences.specs.Generator as generator
 use Rattle.patr_consequences.specs.Generator.{generated_rules, generated_words, generated_entries, AreDifferent, numbered, edge_count, IsCounted, IsOnlyAnalysis, ChartsOfWordsAreCounted, GeneratedChartsAreCounted}
@@ -44,7 +45,7 @@ module _ (N : Numbering) (w : ℕ → List ℕ) where
     word = λ k. N.number (w k);
   }
 
-  same_entries : (k n : ℕ) → map (entry_variants N.number (keys_of N)) (generator.from (generator.entry w) k n) ≡ entries_from symbols k n
+  same_entries : (k n : ℕ) → map (entry_variants N.number same_text (keys_of N) []) (generator.from (generator.entry w) k n) ≡ entries_from symbols k n
   same_entries k zero = refl
   same_entries k (suc n) = ap (λ es. (entry_of symbols k ∷ []) ∷ es) (same_entries (suc k) n)
 
@@ -174,7 +175,7 @@ module _ (s : Symbols) (apart : AreApart s) (n : ℕ) (words : (i j : ℕ) → i
 pub words_counted : ChartsOfWordsAreCounted
 words_counted N w n differ =
     let s = symbols N w in
-    let built : AreBuilt (generated s n) s.cat = subst (λ g. AreBuilt g s.cat) (same_rules N w n) (are_built N.number (keys_of N) generator.generated_grammar (generated_entries w n)) in
+    let built : AreBuilt (generated s n) s.cat = subst (λ g. AreBuilt g s.cat) (same_rules N w n) (are_built N.number same_text (keys_of N) generator.generated_grammar (generated_entries w n)) in
     let words = words_differ N w n differ in
     let all : IsCounted (generated s n) s.cat (words_from s 0 n) n × (0 < n → IsOnlyAnalysis (generated s n) s.cat (words_from s 0 n) (T (n - 1) 0)) =
     (counted s (apart N w) n words built, λ some. one_analysis s (apart N w) n words built (n - 1) (omega (arith, some))) in

@@ -18,6 +18,7 @@ use Rattle.patr_model.proofs.Total.{map_some}
 use Rattle.patr_model.proofs.Canonical.{least_texts}
 use Rattle.patr_model.proofs.Replies.{one_reply}
 use Rattle.patr_model.proofs.StatedCategories.{are_built}
+use Rattle.patr_model.specs.Bytes.{same_text}
 use Rattle.patr_model.specs.Build.{keys_of, grounds}
 use Rattle.patr_totality.proofs.Ready.{builds_are_ready}
 use Rattle.patr_totality.specs.Laws.{AreReady}
@@ -265,7 +266,7 @@ builds_keep N g l paths =
     let s = grounds N g l in
     let h = (grounds N (with_restrictor g paths) l).rules in
     let same : SameButRestrictor s.rules h = record { rules = refl; entries = refl; start = refl } in
-    let made : AreReady s.rules (cat_of s) = builds_are_ready s.rules (cat_of s) (are_built N.number (keys_of N) g l) in
+    let made : AreReady s.rules (cat_of s) = builds_are_ready s.rules (cat_of s) (are_built N.number same_text (keys_of N) g l) in
     record {
       analyses = keep_analyses s.rules h (cat_of s) same made;
       lines = keep_lines s h same made;

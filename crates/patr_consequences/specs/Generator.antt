@@ -13,6 +13,7 @@ use Rattle.patr_model.specs.Grammar.{Done, One}
 use Rattle.patr_model.specs.Productions.{SymbolText, PathText, AtomText, OfPath, EquationText, Equates, RuleText, Grammar}
 use Rattle.patr_model.specs.LexiconText.{EntryText, ReadsLexicon}
 use Rattle.patr_model.specs.Session.{Numbering, Grounds, State, words_of, line, AreAnalyses, ListsAll, IsSentenceReply}
+use Rattle.patr_model.specs.Bytes.{same_text}
 use Rattle.patr_model.specs.Build.{build_fault, grounds}
 use Rattle.patr_model.specs.GrammarText.{ReadsGrammar}
 use Rattle.patr_model.specs.Stages.{Stage}
@@ -193,7 +194,7 @@ pub record AreGeneratedTexts (s : Stage) (n : ℕ) : Type 0 where
       (generated_entries numbered n)
   pub sentence : words_of (sentence_text (generated_sentence numbered n))
       ≡ generated_sentence numbered n
-  pub size : build_fault generated_grammar (generated_entries numbered n) ≡ None
+  pub size : build_fault same_text generated_grammar (generated_entries numbered n) ≡ None
 
 -- so the texts for n words are read at each stage that has equations
 abbrev pub GeneratedTextsAreRead : Type 0

@@ -1,1 +1,14 @@
-mod Variants
+pub mod Behind
+pub mod Counted
+pub mod Depths
+pub mod Earlier
+pub mod Named
+pub mod Parted
+pub mod Parts
+pub mod Rests
+pub mod Rows
+pub mod Rules
+pub mod Unknown
+pub mod Variants
+pub mod Walked
+pub mod Written

@@ -1,2 +1,7 @@
 pub mod Expanded
+pub mod Frames
+pub mod Known
+pub mod Meant
 pub mod Seen
+pub mod Sizes
+pub mod Written

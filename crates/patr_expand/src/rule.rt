@@ -1,27 +1,28 @@
 //! The variants of a rule.
-ghost use Rattle.std.specs.Prelude.{◌≡◌, ◌+◌, ◌<◌, ◌≤◌, ◌^◌, ◌++◌, ◌∷◌, None, Some, IfOk, IfErr, length, map, slice_get, filter_map};
+ghost use Rattle.std.specs.Prelude.{◌≡◌, ◌<◌, ◌^◌, ◌++◌, Some, IfOk, IfErr, length, map, slice_get, filter_map};
 ghost use Rattle.std.specs.Option.{option_map};
-ghost use Rattle.patr_model.specs.Build as written;
+ghost use Rattle.patr_model.specs.Build as build;
 ghost use Rattle.patr_model.specs.Build.{rule_fault};
-ghost use Rattle.patr_model.specs.Productions.{things};
 ghost use Rattle.patr_grammar.specs.declared.grammar.RuleText as code;
-ghost use Rattle.patr_grammar.specs.Reading.{path_seen, term_seen, equation_seen, equations_seen, rule_seen, symbol_seen, right_seen};
-ghost use Rattle.patr_expand.specs.Seen.{number, cat, symbols_seen, path_at, term_at, equation_at, equations_at, variant_at, variants_at, AreNumbered, IsRefusedBy};
-ghost use Rattle.patr_expand.specs.Expanded.{IsOnly, IsExpanded};
+ghost use Rattle.patr_grammar.specs.Reading.{path_seen, term_seen, equation_seen, rule_seen};
+ghost use Rattle.patr_expand.specs.Seen.{number, cat, symbols_seen, path_at, term_at, equation_at, equations_at, IsRefusedBy};
+ghost use Rattle.patr_expand.specs.Expanded.{ArePlaced, IsExpanded, IsMade};
 
-use crate::cause::{ExpandCause, too_many};
+use crate::cause::ExpandCause;
 use crate::equation::{Equation, SlotPath, Term};
+use crate::measured::Measured;
+use crate::right::{push_right, right_count};
+use crate::size::{Size, product};
+use crate::templates::Templates;
 use crate::variant::RuleVariant;
-use patr_grammar::{
-    Element, EquationText, Grammar, Item, PathText, RuleText, SymbolText, TermText,
-};
+use patr_grammar::{EquationText, Grammar, PathText, RuleText, SymbolText, TermText};
 use patr_text::{Fault, Id, Memory, Symbols};
 use std::alloc::Global;
 
 /// The slot of the first constituent with this symbol.
 fn slot_of(symbols: &[SymbolText], symbol: Id) -> Option<u32>
     requires few { length symbols.now < 2 ^ 32 }
-    ensures { result ≡ written.slot_of number (symbols_seen symbols.now) symbol.0 }
+    ensures { result ≡ build.slot_of number (symbols_seen symbols.now) symbol.0 }
 {
     for (slot, other) in symbols.iter().enumerate() {
         if other.symbol == symbol {
@@ -34,7 +35,7 @@ fn slot_of(symbols: &[SymbolText], symbol: Id) -> Option<u32>
 /// The slot at which a path with this head begins: the mother's where it names no constituent.
 fn head_slot(symbols: &[SymbolText], head: Option<Id>) -> Option<u32>
     requires few { length symbols.now < 2 ^ 32 }
-    ensures { result ≡ written.head_slot number (symbols_seen symbols.now) head }
+    ensures { result ≡ build.head_slot number (symbols_seen symbols.now) head }
 {
     match head {
         Some(symbol) => slot_of(symbols, symbol),
@@ -49,7 +50,7 @@ fn placed_path(
     path: &PathText,
 ) -> Result<Option<SlotPath>, Memory>
     requires few { length symbols.now < 2 ^ 32 }
-    ensures { IfOk result (λ found. option_map path_at found ≡ written.placed_path number (symbols_seen symbols.now) (path_seen path.now)) }
+    ensures { IfOk result (λ found. option_map path_at found ≡ build.placed_path number (symbols_seen symbols.now) (path_seen path.now)) }
 {
     let Some(slot) = head_slot(symbols, path.head) else {
         return Ok(None);
@@ -65,7 +66,7 @@ fn placed_term(
     term: &TermText,
 ) -> Result<Option<Term>, Memory>
     requires few { length symbols.now < 2 ^ 32 }
-    ensures { IfOk result (λ found. option_map term_at found ≡ written.placed_term number (symbols_seen symbols.now) (term_seen term.now)) }
+    ensures { IfOk result (λ found. option_map term_at found ≡ build.placed_term number (symbols_seen symbols.now) (term_seen term.now)) }
 {
     match term {
         TermText::Atom(atom) => Ok(Some(Term::Atom(*atom))),
@@ -83,7 +84,7 @@ fn placed_equation(
     equation: &EquationText,
 ) -> Result<Option<Equation>, Memory>
     requires few { length symbols.now < 2 ^ 32 }
-    ensures { IfOk result (λ found. option_map equation_at found ≡ written.placed_equation number (symbols_seen symbols.now) (equation_seen equation.now)) }
+    ensures { IfOk result (λ found. option_map equation_at found ≡ build.placed_equation number (symbols_seen symbols.now) (equation_seen equation.now)) }
 {
     let Some(left) = placed_path(alloc, symbols, &equation.left)? else {
         return Ok(None);
@@ -101,7 +102,7 @@ fn push_categories(
     equations: &mut Vec<Equation>,
 ) -> Result<(), Memory>
     requires few { length symbols.now < 2 ^ 32 }
-    ensures { IfOk result (λ _. equations_at equations.new.items ≡ equations_at equations.old.items ++ written.category_equations number cat 0 (symbols_seen symbols.now)) }
+    ensures { IfOk result (λ _. equations_at equations.new.items ≡ equations_at equations.old.items ++ build.category_equations number cat 0 (symbols_seen symbols.now)) }
 {
     for (slot, symbol) in symbols.iter().enumerate() {
         let left = SlotPath {
@@ -118,14 +119,13 @@ fn push_categories(
 fn push_written(
     alloc: Global,
     symbols: &[SymbolText],
-    elements: &[Element],
+    written: &[&EquationText],
     equations: &mut Vec<Equation>,
 ) -> Result<(), Memory>
     requires few { length symbols.now < 2 ^ 32 }
-    ensures { IfOk result (λ _. equations_at equations.new.items ≡ equations_at equations.old.items ++ filter_map (written.placed_equation number (symbols_seen symbols.now)) (things (equations_seen elements.now))) }
+    ensures { IfOk result (λ _. equations_at equations.new.items ≡ equations_at equations.old.items ++ filter_map (build.placed_equation number (symbols_seen symbols.now)) (map (λ e. equation_seen e.now) written.now)) }
 {
-    for element in elements {
-        let Element::Equation(equation) = element;
+    for equation in written {
         if let Some(equation) = placed_equation(alloc, symbols, equation)? {
             equations.push(equation)?;
         }
@@ -133,30 +133,41 @@ fn push_written(
     Ok(())
 }
 
-/// The constituents of a rule, the mother first.
-fn constituents(alloc: Global, rule: &RuleText) -> Result<Vec<SymbolText>, Memory>
-    ensures symbols { IfOk result (λ symbols. symbols_seen symbols.items ≡ symbol_seen rule.now.mother ∷ things (right_seen rule.now.right.items)) }
-    ensures count { IfOk result (λ symbols. length symbols.items ≡ length rule.now.right.items + 1) }
-{
-    let mut symbols = vec![in alloc; rule.mother]?;
-    for item in &rule.right {
-        let Item::Symbol(symbol) = item;
-        symbols.push(*symbol)?;
-    }
-    Ok(symbols)
+/// How many variants the parts of a rule have, and which one of each is taken.
+#[derive(Clone, Copy)]
+struct Parts {
+    rights: u64,
+    equations: u64,
 }
 
-/// The one variant of a rule that has no choices.
-fn only_variant(alloc: Global, rule: &RuleText, number: u32) -> Result<RuleVariant, Memory>
-    ensures { IfOk result (λ variant. IsOnly number rule.now variant) }
+/// The variant of this number of a rule whose parts have so many.
+fn rule_variant(
+    alloc: Global,
+    rule: &RuleText,
+    parts: Parts,
+    number: u32,
+    variant: u32,
+) -> Result<RuleVariant, Memory>
+    requires { ArePlaced rule.now parts variant }
+    ensures { IfOk result (λ made. IsMade number rule.now variant made) }
 {
-    let symbols = constituents(alloc, rule)?;
+    let templates = Templates::none(alloc)?;
+    let variant_of_right = u64::from(variant) / parts.equations;
+    let variant_of_equations = u64::from(variant) % parts.equations;
+    let mut symbols = vec![in alloc; rule.mother]?;
+    push_right(&rule.right, parts.rights, variant_of_right, &mut symbols)?;
+    let written = templates.variant(
+        alloc,
+        &rule.equations,
+        parts.equations,
+        variant_of_equations,
+    )?;
     let mut equations = Vec::new(alloc);
     push_categories(alloc, &symbols, &mut equations)?;
-    push_written(alloc, &symbols, &rule.equations, &mut equations)?;
+    push_written(alloc, &symbols, &written, &mut equations)?;
     Ok(RuleVariant {
         rule: number,
-        variant: 0,
+        variant,
         symbols,
         equations,
     })
@@ -171,11 +182,25 @@ fn expand(
     ensures expanded { IfOk result (λ variants. IsExpanded number rule.now variants.items) }
     ensures refused { IfErr result (λ fault. IsRefusedBy (rule_fault (rule_seen rule.now)) fault) }
 {
-    if let Some(cause) = too_many(&rule.equations, rule.line) {
+    let rights = right_count(&rule.right);
+    let written = Measured::new(alloc)?.size(&rule.equations);
+    let size = Size {
+        variants: product(rights, written.variants),
+        equations: written.equations,
+    };
+    if let Some(cause) = size.refusal(rule.line) {
         return Err(Fault::Refused(cause));
     }
-    let variant = only_variant(alloc, rule, number)?;
-    Ok(vec![in alloc; variant]?)
+    let parts = Parts {
+        rights,
+        equations: written.variants,
+    };
+    let mut variants = Vec::with_capacity(alloc, size.variants as usize)?;
+    for variant in 0..size.variants as u32 {
+        let made = rule_variant(alloc, rule, parts, number, variant)?;
+        variants.push(made)?;
+    }
+    Ok(variants)
 }
 
 /// The variants of the rule with this number: those of its right side change slowest. It is refused where a variant has

@@ -1,188 +1,139 @@
-ghost use Rattle.std.specs.Prelude.{◌≡◌, length, IfOk};
-
+//! Rules and features with choices, templates, and what is refused.
 use super::*;
-use patr_grammar::{
-    Element, EquationText, Grammar, Item, PathText, RuleText, SymbolText, TermText,
-};
-use patr_text::{Fault, Id, Memory, Symbols};
+use patr_grammar::{Grammar, read_grammar};
+use patr_text::{Fault, Symbols};
 use std::alloc::Global;
+use std::process::Abort;
 use std::test::Fail;
 
-const S: Id = Id(38);
+/// Grammars; how many variants their first rule has, and how many equations the last of them has.
+const RULES: [(&str, usize, usize); 3] = [
+    ("Rule S -> NP VP <S head> = <VP head>", 1, 4),
+    (
+        "Rule S -> (NP) V <S head> = <NP head> { <S a> = x / <V a> = y }",
+        4,
+        3,
+    ),
+    ("Rule S -> { A / B { C / D } } E", 3, 4),
+];
 
-const NP: Id = Id(39);
+/// Grammars; how many variants their last template has, and how many equations the last of them has.
+const TEMPLATES: [(&str, usize, usize); 3] = [
+    ("Rule S -> A Let T be <a b> = x", 1, 1),
+    (
+        "Rule S -> A Let T be <a> = x { <b> = y / <c> = z } Let U be T <d> = <a>",
+        2,
+        3,
+    ),
+    (
+        "Rule S -> A Let T be { <a> = x / <b> = y } Let U be { T / <c> = z } Let V be U T",
+        6,
+        2,
+    ),
+];
 
-const VP: Id = Id(40);
+/// Grammars with an unknown name, and what refuses them.
+const UNKNOWN: [(&str, &str); 2] = [
+    ("Rule S -> A Let T be <a> = x U", "1:30: unknown name"),
+    ("Rule S -> A Let T be { <a> = x / T }", "1:34: unknown name"),
+];
 
-const HEAD: Id = Id(41);
+/// Two alternatives.
+const ALTERNATIVES: &str = "{ <S a> = x / <S b> = y } ";
 
-const X: Id = Id(42);
-
-const SECOND_NP: Id = Id(43);
-
-/// A symbol that is its own category.
-fn plain(symbol: Id) -> SymbolText {
-    SymbolText {
-        symbol,
-        category: symbol,
-    }
-}
-
-/// The path `<symbol head>`, or `<head>` where no symbol is given.
-fn head_of(alloc: Global, head: Option<Id>) -> Result<PathText, Memory> {
-    Ok(PathText {
-        head,
-        attributes: vec![in alloc; HEAD]?,
-    })
-}
-
-/// The equation `<symbol head> = x`.
-fn has_x(alloc: Global, head: Option<Id>) -> Result<Element, Memory> {
-    Ok(Element::Equation(EquationText {
-        left: head_of(alloc, head)?,
-        right: TermText::Atom(X),
-    }))
-}
-
-/// As many equations `<symbol head> = x`.
-fn many(alloc: Global, head: Option<Id>, count: u32) -> Result<Vec<Element>, Memory> {
-    let mut equations = Vec::new(alloc);
-    for _ in 0..count {
-        equations.push(has_x(alloc, head)?)?;
-    }
-    Ok(equations)
-}
-
-/// The grammar of one rule at line 7: `S -> NP VP NP_2`, with these equations.
-fn grammar(alloc: Global, equations: Vec<Element>) -> Result<Grammar, Memory>
-    ensures { IfOk result (λ g. length g.rules.items ≡ 1) }
-{
-    let second = SymbolText {
-        symbol: SECOND_NP,
-        category: NP,
+/// What a text is read as.
+fn read<A: Abort>(rt: &A, alloc: Global, text: &str) -> Result<Grammar, Fail> {
+    let mut symbols = Symbols::new(alloc)?;
+    assert!(rt; symbols.len() < 100 && text.len() < 1000);
+    let Ok(grammar) = read_grammar(alloc, &mut symbols, text.as_bytes()) else {
+        return Err(std::alloc::AllocError.into());
     };
-    let rule = RuleText {
-        line: 7,
-        name: Vec::new(alloc),
-        mother: plain(S),
-        right: vec![in alloc;
-            Item::Symbol(plain(NP)),
-            Item::Symbol(plain(VP)),
-            Item::Symbol(second),
-        ]?,
-        equations,
+    assert!(rt; !grammar.rules.is_empty());
+    Ok(grammar)
+}
+
+/// The variants of the last template have these counts.
+fn has_variants(
+    alloc: Global,
+    grammar: &Grammar,
+    count: usize,
+    equations: usize,
+) -> Result<bool, Fail> {
+    let (Ok(()), Ok(templates), Some(body)) = (
+        check_templates(grammar),
+        Templates::new(alloc, grammar),
+        grammar.templates.last(),
+    ) else {
+        return Ok(false);
     };
-    Ok(Grammar {
-        rules: vec![in alloc; rule]?,
-        templates: Vec::new(alloc),
-        lexical_rules: Vec::new(alloc),
-        start: S,
-        restrictor: vec![in alloc; vec![in alloc; Symbols::CAT]?]?,
-        order: Vec::new(alloc),
-    })
-}
-
-/// A path as text: its slot, and its attributes.
-fn path_text(alloc: Global, path: &SlotPath) -> Result<String, Memory> {
-    let mut text = format!(in alloc; "{}", path.slot)?;
-    for attribute in &path.path {
-        let more = format!(in alloc; " {}", attribute.0)?;
-        text.push_str(&more)?;
-    }
-    Ok(text)
-}
-
-/// Equations as text.
-fn shown(alloc: Global, equations: &[Equation]) -> Result<String, Memory> {
-    let mut text = String::new(alloc);
-    for equation in equations {
-        let left = path_text(alloc, &equation.left)?;
-        let right = match &equation.right {
-            Term::Atom(atom) => format!(in alloc; "#{}", atom.0)?,
-            Term::Path(path) => path_text(alloc, path)?,
-        };
-        let line = format!(in alloc; "{left} = {right}; ")?;
-        text.push_str(&line)?;
-    }
-    Ok(text)
-}
-
-/// The equations `<VP head> = <S head>` and `<NP_2 head> = x`.
-fn two(alloc: Global) -> Result<Vec<Element>, Memory> {
-    let shared = Element::Equation(EquationText {
-        left: head_of(alloc, Some(VP))?,
-        right: TermText::Path(head_of(alloc, Some(S))?),
-    });
-    Ok(vec![in alloc; shared, has_x(alloc, Some(SECOND_NP))?]?)
-}
-
-/// What a refusal says, or that memory ran out.
-fn fault_text(alloc: Global, fault: Fault<ExpandCause>) -> Result<String, Memory> {
-    match fault {
-        Fault::Refused(ExpandCause::TooManyEquations { line, count }) => {
-            format!(in alloc; "line {line}: {count}")
-        }
-        Fault::Memory => format!(in alloc; "no memory"),
-    }
-}
-
-/// The variants of the rule with these equations: their numbers, their symbols and their equations.
-fn rule_text(alloc: Global, equations: Vec<Element>) -> Result<String, Memory> {
-    let grammar = grammar(alloc, equations)?;
-    let variants = match expand_rule(alloc, &grammar, 0) {
-        Ok(variants) => variants,
-        Err(fault) => return fault_text(alloc, fault),
+    let Ok(variants) = templates.expand(alloc, &body.body, 7) else {
+        return Ok(false);
     };
-    let mut text = String::new(alloc);
-    for variant in &variants {
-        let numbers = format!(in alloc; "{}.{}:", variant.rule, variant.variant)?;
-        text.push_str(&numbers)?;
-        for symbol in &variant.symbols {
-            let more = format!(in alloc; " {}", symbol.symbol.0)?;
-            text.push_str(&more)?;
-        }
-        text.push_str(": ")?;
-        let equations = shown(alloc, &variant.equations)?;
-        text.push_str(&equations)?;
-    }
-    Ok(text)
-}
-
-/// The variants of features that stand at line 9.
-fn features_text(alloc: Global, body: &[Element]) -> Result<String, Memory> {
-    let grammar = grammar(alloc, Vec::new(alloc))?;
-    let variants = match expand_features(alloc, &grammar, body, 9) {
-        Ok(variants) => variants,
-        Err(fault) => return fault_text(alloc, fault),
+    let Some(last) = variants.last() else {
+        return Ok(false);
     };
-    let mut text = String::new(alloc);
-    for equations in &variants {
-        let more = shown(alloc, equations)?;
-        text.push_str(&more)?;
-        text.push_str("|")?;
-    }
-    Ok(text)
+    Ok(variants.len() == count && last.len() == equations)
 }
 
 #[test]
-fn rules_have_variants(rt: HostRuntime) -> Result<(), Fail> {
+fn variants_are_counted(rt: HostRuntime) -> Result<(), Fail> {
     let alloc = rt.alloc();
-    let variants = rule_text(alloc, two(alloc)?)?;
-    assert_eq!(rt;
-        variants.as_str(),
-        "0.0: 38 39 40 43: 0 33 = #38; 1 33 = #39; 2 33 = #40; 3 33 = #39; 2 41 = 0 41; 3 41 = #42; "
-    );
-    let refused = rule_text(alloc, many(alloc, Some(S), 1025)?)?;
-    assert_eq!(rt; refused.as_str(), "line 7: 1025");
+    for (text, count, equations) in RULES {
+        let grammar = read(&rt, alloc, text)?;
+        assert!(rt; !grammar.rules.is_empty());
+        let Ok(variants) = expand_rule(alloc, &grammar, 0) else {
+            return Err(std::alloc::AllocError.into());
+        };
+        assert_eq!(rt; variants.len(), count);
+        if let Some(last) = variants.last() {
+            assert_eq!(rt; last.equations.len(), equations);
+        }
+    }
+    for (text, count, equations) in TEMPLATES {
+        let grammar = read(&rt, alloc, text)?;
+        assert!(rt; has_variants(alloc, &grammar, count, equations)?);
+    }
     Ok(())
 }
 
 #[test]
-fn features_have_variants(rt: HostRuntime) -> Result<(), Fail> {
+fn features_are_expanded_by_one_call(rt: HostRuntime) -> Result<(), Fail> {
     let alloc = rt.alloc();
-    let few = many(alloc, None, 1)?;
-    assert_eq!(rt; features_text(alloc, &few)?.as_str(), "0 41 = #42; |");
-    let most = many(alloc, None, 1025)?;
-    assert_eq!(rt; features_text(alloc, &most)?.as_str(), "line 9: 1025");
+    let grammar = read(&rt, alloc, TEMPLATES[1].0)?;
+    let Some(last) = grammar.templates.last() else {
+        return Err(std::alloc::AllocError.into());
+    };
+    if let Ok(()) = check_templates(&grammar) {
+        let Ok(variants) = expand_features(alloc, &grammar, &last.body, 7) else {
+            return Err(std::alloc::AllocError.into());
+        };
+        assert_eq!(rt; variants.len(), 2);
+    }
+    Ok(())
+}
+
+#[test]
+fn names_and_sizes_are_refused(rt: HostRuntime) -> Result<(), Fail> {
+    let alloc = rt.alloc();
+    for (text, wanted) in UNKNOWN {
+        let grammar = read(&rt, alloc, text)?;
+        let Err(cause) = check_templates(&grammar) else {
+            return Err(std::alloc::AllocError.into());
+        };
+        assert_eq!(rt; format!(in alloc; "{cause}")?.as_str(), wanted);
+    }
+    let mut text = format!(in alloc; "Rule S -> A ")?;
+    for _ in 0..9 {
+        text.push_str(ALTERNATIVES)?;
+    }
+    let grammar = read(&rt, alloc, text.as_str())?;
+    assert!(rt; !grammar.rules.is_empty());
+    let Err(Fault::Refused(cause)) = expand_rule(alloc, &grammar, 0) else {
+        return Err(std::alloc::AllocError.into());
+    };
+    assert_eq!(rt;
+        format!(in alloc; "{cause}")?.as_str(),
+        "1: more than 256 variants (512)"
+    );
     Ok(())
 }

@@ -1,5 +1,5 @@
 -- Features up to the end.
-use Rattle.std.proofs.Common.{◌≡◌, List, [], ◌∷◌, refl}
+use Rattle.std.proofs.Common.{◌≡◌, ◌≤◌, ◌∙◌, List, [], ◌∷◌, ap, arith, length, refl}
 use Rattle.patr_model.specs.declared.notation.What.TheVariants as what
 use Rattle.patr_grammar.proofs.Names.{Expected, FeatureText, Got, Item, Parse, Reads, Row, Stops, Words, ◌>>=◌, begins_feature, elements, feature, row, star}
 use Rattle.patr_model.specs.Stages.{Stage}
@@ -18,3 +18,11 @@ module _ {T W : Type 0} (words : Words T W) (s : Stage) where
       by (Got xs []) e = rw e refl
       by (Got xs (t ∷ us)) e = rw e refl
       by (Stops r us) e = rw e refl
+
+  pub elements_left : (xs : List (Item (FeatureText W))) (ts rest : List T) → star (begins_feature words) (feature words s) ts ≡ Got xs rest → 1 ≤ length rest → elements words s ts ≡ Stops (Expected what.EquationOrName) rest
+  elements_left xs ts [] e some = absurd (omega (arith, some))
+  elements_left xs ts (t ∷ rest) e some = elements_is ts ∙ ap (λ p. p >>= closed) e
+
+  pub elements_end : (xs : List (Item (FeatureText W))) (ts rest : List T) → star (begins_feature words) (feature words s) ts ≡ Got xs rest → length rest ≡ 0 → elements words s ts ≡ Got (row xs) rest
+  elements_end xs ts [] e none = elements_is ts ∙ ap (λ p. p >>= closed) e
+  elements_end xs ts (t ∷ rest) e none = absurd (omega (arith, none))

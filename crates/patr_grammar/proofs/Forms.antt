@@ -1,9 +1,10 @@
--- What productions give at the stage that is built.
-use Rattle.std.proofs.Common.{◌≡◌, ℕ, suc, ◌-◌, Bool, true, false, cond, List, [], ◌∷◌, ◌++◌, map, nat_eq, None, slice_index_or, ◌<◌, length, refl, sym, ap, ◌∙◌, arith, append-nil}
-use Rattle.patr_grammar.proofs.Names.{CloseBrace, Expected, Got, Item, LaterForm, Left, OpenBrace, OpenParen, Parse, RuleClause, RuleText, Settings, Single, Stands, Stops, SymbolText, TooManySymbols, Words, ◌>>=◌, before, begins, clause, clauses, concluded, grammar, is_key, is_kind, is_symbol, item, lexical_rule, name_tokens, nat_tests, outcome, parameter, settings, stage, symbol_item, symbol_of, template, with_rules}
-use Rattle.patr_model.specs.declared.notation.Keyword.TheVariants.{Let, Define, Parameter}
+-- What lexemes of names, paths and symbols give.
+use Rattle.std.proofs.Common.{◌≡◌, ℕ, zero, suc, ◌-◌, ◌≤◌, Bool, true, false, cond, List, [], ◌∷◌, ◌++◌, nat_eq, refl, sym, ap, ◌∙◌, arith, append-nil}
+use Rattle.patr_model.specs.declared.notation.What.{What}
 use Rattle.patr_model.specs.declared.notation.What.TheVariants as what
-use Rattle.patr_grammar.proofs.Loops.{onto, onto_one}
+use Rattle.patr_grammar.proofs.Names.{CloseBrace, Expected, Got, Id, Item, Left, Lexeme, OpenBrace, Parse, PathTooLong, Single, Stops, SymbolText, TooManySymbols, Word, Words, ◌>>=◌, begins, by_id, is_kind, is_symbol, name_tokens, nat_tests, one, onto, symbol_item, symbol_of, word_list}
+use Rattle.patr_model.specs.Parsing.{maybe}
+use Rattle.patr_grammar.proofs.Loops.{onto_one}
 
 module _ {T W : Type 0} (words : Words T W) where
   -- ---- names
@@ -24,27 +25,10 @@ module _ {T W : Type 0} (words : Words T W) where
   unfolding name_tokens
   name_missing front = refl
 
-  -- ---- items without groups
+  -- ---- a symbol of a right side
 
   abbrev ItemParse : Type 0
   ItemParse = Parse T W (Left T) (Item (SymbolText W))
-
-  pub item_is_symbol : (n : ℕ) (s : Left T) → begins (is_kind words OpenParen) s.tokens ≡ false → begins (is_kind words OpenBrace) s.tokens ≡ false → item words false (suc n) s ≡ symbol_item words s
-  unfolding item
-  item_is_symbol n s a b = ap (λ (t : Bool). cond t (Stops LaterForm s.tokens) (cond (begins (is_kind words OpenBrace) s.tokens) (Stops LaterForm s.tokens) (symbol_item words s))) a
-      ∙ ap (λ (t : Bool). cond t (Stops LaterForm s.tokens) (symbol_item words s)) b
-
-  pub later_paren : (n : ℕ) (s : Left T) → begins (is_kind words OpenParen) s.tokens ≡ true → item words false (suc n) s ≡ Stops LaterForm s.tokens
-  unfolding item
-  later_paren n s a = ap (λ (t : Bool). cond t (Stops LaterForm s.tokens) (cond (begins (is_kind words OpenBrace) s.tokens) (Stops LaterForm s.tokens) (symbol_item words s))) a
-
-  either_later : (t : Bool) (p : ItemParse) → cond t p p ≡ p
-  either_later true p = refl
-  either_later false p = refl
-
-  pub later_brace : (n : ℕ) (s : Left T) → begins (is_kind words OpenBrace) s.tokens ≡ true → item words false (suc n) s ≡ Stops LaterForm s.tokens
-  unfolding item
-  later_brace n s a = ap (λ (t : Bool). cond (begins (is_kind words OpenParen) s.tokens) (Stops LaterForm s.tokens) (cond t (Stops LaterForm s.tokens) (symbol_item words s))) a ∙ either_later (begins (is_kind words OpenParen) s.tokens) (Stops LaterForm s.tokens)
 
   symbol_step : ℕ → T → List T → Bool → ItemParse
   symbol_step left t ts b = cond b (Got t ts) (Stops (Expected what.Symbol) (t ∷ ts)) >>= λ t' ts'. cond (nat_eq left 0) (Stops TooManySymbols (t ∷ ts)) (Got (Single (symbol_of words t')) (record { symbols = left - 1; tokens = ts' }))
@@ -63,35 +47,38 @@ module _ {T W : Type 0} (words : Words T W) where
   unfolding symbol_step
   symbol_missing left t ts a = ap (symbol_step left t ts) a
 
-  -- ---- clauses
+-- a token that is there is read, and is passed
+pub passes : {T W : Type 0} (test : T → Bool) (w : What) (ts : List T) → begins test ts ≡ true → (t : T) × (one {W = W} test w ts ≡ Got t (maybe test ts))
+passes test w [] h = absurd cc
+passes test w (t ∷ ts) h = (t, ap (λ b. cond b (Got t ts) (Stops (Expected w) (t ∷ ts))) h ∙ ap (λ b. Got t (cond b ts (t ∷ ts))) (sym h))
 
-  pub later_let : (ts : List T) → begins (is_key words Let) ts ≡ true → clause words stage [] ts ≡ Stops LaterForm ts
-  unfolding template
-  later_let ts h = rw h refl
+-- ---- the words of a path
 
-  pub later_define : (ts : List T) → begins (is_key words Let) ts ≡ false → begins (is_key words Define) ts ≡ true → clause words stage [] ts ≡ Stops LaterForm ts
-  unfolding lexical_rule
-  later_define ts a h = rw (a, h) refl
+words_end : (left n : ℕ) (ts : (List Lexeme)) → begins (is_kind by_id Word) ts ≡ false → word_list by_id left n ts ≡ Got [] ts
+unfolding word_list
+words_end left zero ts h = refl
+words_end left (suc n) [] h = refl
+words_end zero (suc n) (t ∷ ts) h = rw h refl
+words_end (suc left) (suc n) (t ∷ ts) h = rw h refl
 
-  pub later_parameter : (ts : List T) → begins (is_key words Let) ts ≡ false → begins (is_key words Define) ts ≡ false → begins (is_key words Parameter) ts ≡ true → clause words stage [] ts ≡ Stops LaterForm ts
-  unfolding parameter
-  later_parameter ts l d h = rw (l, d, h) refl
+abbrev WordParse : Type 0
+WordParse = Parse Lexeme Id (List Lexeme) (List Id)
 
-  -- ---- a grammar of rules alone
+pub word_goes_on : (front : List Id) (left n : ℕ) (t : Lexeme) (ts : (List Lexeme)) (total : WordParse) → is_kind by_id Word t ≡ true → (left ≡ 0 → ⊥) → 1 ≤ n → onto front (word_list by_id left n (t ∷ ts)) ≡ total → onto (front ++ t.word ∷ []) (word_list by_id (left - 1) (n - 1) ts) ≡ total
+unfolding word_list
+word_goes_on front zero n t ts total h some one e = absurd (some refl)
+word_goes_on front (suc left) zero t ts total h some one e = absurd (omega arith)
+word_goes_on front (suc left) (suc n) t ts total h some one e =
+    let a : suc left - 1 ≡ left = omega arith in
+    let b : suc n - 1 ≡ n = omega arith in
+    ap (λ (k : ℕ). onto (front ++ t.word ∷ []) (word_list by_id k (suc n - 1) ts)) a ∙ ap (λ (k : ℕ). onto (front ++ t.word ∷ []) (word_list by_id left k ts)) b ∙ sym (onto_one front t.word (word_list by_id left n ts))
+    ∙ ap (λ (x : Bool). onto front (cond x (word_list by_id left n ts >>= λ vs r. Got (t.word ∷ vs) r) (Got [] (t ∷ ts)))) (sym h) ∙ e
 
-  abbrev rules_alone : List (RuleText W) → Settings W
-  rules_alone rs = record { rules = rs; templates = []; lexical_rules = []; start = None; restrictor = None; order = None }
+pub word_too_many : (front : List Id) (left n : ℕ) (t : Lexeme) (ts : (List Lexeme)) (total : WordParse) → is_kind by_id Word t ≡ true → left ≡ 0 → 1 ≤ n → onto front (word_list by_id left n (t ∷ ts)) ≡ total → total ≡ Stops PathTooLong (t ∷ ts)
+unfolding word_list
+word_too_many front zero zero t ts total h none one e = absurd (omega arith)
+word_too_many front zero (suc n) t ts total h none one e = sym e ∙ ap (λ (x : Bool). onto front (cond x (Stops PathTooLong (t ∷ ts)) (Got [] (t ∷ ts)))) h
+word_too_many front (suc left) n t ts total h none one e = absurd (omega arith)
 
-  settings_of_rules : {X : Type 0} (f : X → RuleText W) (rs : List X) → settings (map (λ r. RuleClause (f r)) rs) ≡ rules_alone (map f rs)
-  settings_of_rules f [] = refl
-  settings_of_rules f (r ∷ rs) = ap (λ (g : Settings W). before (RuleClause (f r)) g) (settings_of_rules f rs)
-
-  -- rules whose first one has this category as its mother's
-  pub stands : {X : Type 0} (f : X → RuleText W) (cat start : W) (rs : List X) (ts rest : List T) → clauses words stage (length ts) [] ts ≡ Got (map (λ r. RuleClause (f r)) rs) rest → 0 < length rs
-      → ((default : X) → start ≡ (f (slice_index_or rs 0 default)).mother.category)
-      → grammar words stage cat ts ≡ Stands (record { rules = map f rs; templates = []; lexical_rules = []; start = start; restrictor = (cat ∷ []) ∷ []; order = [] })
-  stands f cat start [] ts rest e some is = absurd (omega arith)
-  stands f cat start (r ∷ rs) ts rest e some is =
-      ap (outcome cat) e
-      ∙ ap (λ (g : Settings W). concluded (with_rules cat g g.rules)) (settings_of_rules f (r ∷ rs))
-      ∙ ap (λ (x : W). Stands (record { rules = map f (r ∷ rs); templates = []; lexical_rules = []; start = x; restrictor = (cat ∷ []) ∷ []; order = [] })) (sym (is r))
+pub words_stop : (front : List Id) (left n : ℕ) (ts : (List Lexeme)) (total : WordParse) → begins (is_kind by_id Word) ts ≡ false → onto front (word_list by_id left n ts) ≡ total → total ≡ Got front ts
+words_stop front left n ts total h e = sym e ∙ ap (onto front) (words_end left n ts h) ∙ ap (λ (xs : List Id). Got xs ts) (append-nil front)

@@ -1,138 +1,97 @@
 -- What a loop has read, and what is still read.
-use Rattle.std.proofs.Common.{◌≡◌, ℕ, zero, suc, ◌-◌, ◌≤◌, Bool, true, false, List, [], ◌∷◌, ◌++◌, length, map, Err, Vec, Global, refl, sym, ap, ◌∙◌, arith, append_assoc, append-nil}
+use Rattle.std.proofs.Common.{◌≡◌, ℕ, zero, suc, ◌-◌, ◌<◌, ◌≤◌, Bool, true, false, cond, List, [], ◌∷◌, ◌++◌, length, Result, Ok, Err, refl, sym, ap, ◌∙◌, arith, append_assoc, append-nil}
 use Rattle.std.proofs.lemmas.Bool.{true≢false}
 use Rattle.patr_model.specs.Parsing as parsing
-use Rattle.patr_grammar.proofs.Names.{Clause, Fault, Gives, GivesAt, Got, Id, Item, Left, Lexeme, Memory, Parse, Reads, Refused, RuleClause, RuleText, Stops, SymbolText, ◌>>=◌, begins_outer, by_id, clause, clauses, item, item_seen, many, many_right, refusal_seen, right_side, right_view, row, rule_view, stage, star_right, with_name}
+use Rattle.patr_model.specs.Productions.{RightReads}
+use Rattle.patr_grammar.proofs.Names.{Fails, Fault, GivesAt, Got, Id, Left, Lexeme, Memory, Parse, Reads, Refused, Stops, ◌>>=◌, by_id, many, many_right, onto, refusal_seen}
 use Rattle.patr_grammar.specs.declared.reader.Refusal.{Refusal}
-use Rattle.patr_grammar.specs.declared.grammar.RuleText as code_rule
-
--- things that were read before
-abbrev pub onto : {T W S X : Type 0} → List X → Parse T W S (List X) → Parse T W S (List X)
-onto front p = p >>= λ xs s. Got (front ++ xs) s
 
 pub onto_one : {T W S X : Type 0} (front : List X) (x : X) (p : Parse T W S (List X)) → onto front (p >>= λ xs s. Got (x ∷ xs) s) ≡ onto (front ++ x ∷ []) p
 onto_one {X = X} front x (Got xs s) = ap (λ (ys : List X). Got ys s) (sym (append_assoc front (x ∷ []) xs))
 onto_one front x (Stops r ts) = refl
 
-one_more : (n : ℕ) → 1 ≤ n → n ≡ suc (n - 1)
-one_more n h = omega arith
+pub onto_none : {T W S X : Type 0} (p : Parse T W S (List X)) → onto [] p ≡ p
+onto_none (Got xs s) = refl
+onto_none (Stops r ts) = refl
 
--- ---- items of a right side
+-- what fails at first fails
+pub fails_at_first : {S R X Y : Type 0} (f : Fault Refusal) (rest : List Lexeme) (p : Parse Lexeme Id S X) (k : X → S → Parse Lexeme Id R Y) → Fails f rest p → Fails f rest (p >>= k)
+fails_at_first Memory rest p k g = tt
+fails_at_first (Refused r) rest p k g = ap (λ p. p >>= k) g
 
-abbrev Items : Type 0
-Items = List (Item (SymbolText Id))
+-- things are read while one may begin, at most so many
+pub record IsMany {T W S X : Type 0} (size : S → ℕ) (starts : S → Bool) (read : S → Parse T W S X) (reads : ℕ → S → Parse T W S (List X)) : Type 0 where
+  pub none : (s : S) → reads 0 s ≡ Got [] s
+  pub more : (n : ℕ) (s : S) → reads (suc n) s ≡ cond (starts s) (read s >>= λ x s. reads n s >>= λ xs s. Got (x ∷ xs) s) (Got [] s)
+  pub some : (s : S) → starts s ≡ true → 1 ≤ size s
 
-abbrev ItemParse : Type 0
-ItemParse = Parse Lexeme Id (Left Lexeme) Items
+-- behind the front, what is left gives the whole
+pub record IsLeft {T W S X : Type 0} (size : S → ℕ) (reads : ℕ → S → Parse T W S (List X)) (front : List X) (s : S) (total : Parse T W S (List X)) : Type 0 where
+  pub most : ℕ
+  pub enough : size s ≤ most
+  pub is : onto front (reads most s) ≡ total
 
--- an item without groups
-abbrev pub plain_item : Left Lexeme → Parse Lexeme Id (Left Lexeme) (Item (SymbolText Id))
-plain_item s = item by_id false 16 s
+one_more : (n m : ℕ) → 1 ≤ m → m ≤ n → n ≡ suc (n - 1)
+one_more n m h le = omega arith
 
-abbrev pub so_far : Items → ℕ → Left Lexeme → ItemParse
-so_far front n s = onto front (many_right by_id n (begins_outer by_id) (item by_id false 16) s)
+module _ {T W S X : Type 0} {size : S → ℕ} {starts : S → Bool} {read : S → Parse T W S X} {reads : ℕ → S → Parse T W S (List X)} (m : IsMany size starts read reads) where
+  -- one more turn
+  turn : (front : List X) (s : S) (total : Parse T W S (List X)) (h : IsLeft size reads front s total) → starts s ≡ true → onto front (read s >>= λ x s. reads (h.most - 1) s >>= λ xs s. Got (x ∷ xs) s) ≡ total
+  turn front s total h e =
+      ap (λ b. onto front (cond b (read s >>= λ x s. reads (h.most - 1) s >>= λ xs s. Got (x ∷ xs) s) (Got [] s))) (sym e)
+      ∙ ap (onto front) (sym (m.more (h.most - 1) s)) ∙ ap (λ n. onto front (reads n s)) (sym (one_more h.most (size s) (m.some s e) h.enough)) ∙ h.is
 
-abbrev pub all_items : List Lexeme → ItemParse
-all_items ts = star_right by_id (begins_outer by_id) (item by_id false 16) (record { symbols = 32; tokens = ts })
+  pub goes_on : (front : List X) (s t : S) (x : X) (total : Parse T W S (List X)) → starts s ≡ true → read s ≡ Got x t → size t < size s → IsLeft size reads front s total → IsLeft size reads (front ++ x ∷ []) t total
+  goes_on front s t x total e g less h = record {
+    most = h.most - 1;
+    enough = omega (arith, h.enough);
+    is = sym (onto_one front x (reads (h.most - 1) t)) ∙ ap (λ p. onto front (p >>= λ x s. reads (h.most - 1) s >>= λ xs s. Got (x ∷ xs) s)) (sym g) ∙ turn front s total h e;
+  }
 
-more_items : (front : Items) (n : ℕ) (s t : Left Lexeme) (x : Item (SymbolText Id)) → begins_outer by_id s.tokens ≡ true → plain_item s ≡ Got x t → so_far front (suc n) s ≡ so_far (front ++ x ∷ []) n t
-unfolding many_right
-more_items front n s t x h e = rw (h, e) (onto_one front x (many_right by_id n (begins_outer by_id) (item by_id false 16) t))
+  pub stops : (front : List X) (s : S) (r : parsing.Refusal W) (rest : List T) (total : Parse T W S (List X)) → starts s ≡ true → read s ≡ Stops r rest → IsLeft size reads front s total → total ≡ Stops r rest
+  stops front s r rest total e g h = sym (turn front s total h e) ∙ ap (λ p. onto front (p >>= λ x s. reads (h.most - 1) s >>= λ xs s. Got (x ∷ xs) s)) g
 
-items_stop : (front : Items) (n : ℕ) (s : Left Lexeme) (r : parsing.Refusal Id) (rest : List Lexeme) → begins_outer by_id s.tokens ≡ true → plain_item s ≡ Stops r rest → so_far front (suc n) s ≡ Stops r rest
-unfolding many_right
-items_stop front n s r rest h e = rw (h, e) refl
+  pub ends : (front : List X) (s : S) (total : Parse T W S (List X)) → starts s ≡ false → IsLeft size reads front s total → total ≡ Got front s
+  ends front s total e h = sym h.is ∙ none_left h.most
+    where
+      none_left : (n : ℕ) → onto front (reads n s) ≡ Got front s
+      none_left zero = ap (onto front) (m.none s) ∙ ap (λ xs. Got xs s) (append-nil front)
+      none_left (suc n) = ap (onto front) (m.more n s ∙ ap (λ b. cond b (read s >>= λ x s. reads n s >>= λ xs s. Got (x ∷ xs) s) (Got [] s)) e) ∙ ap (λ xs. Got xs s) (append-nil front)
 
-items_end : (front : Items) (n : ℕ) (s : Left Lexeme) → begins_outer by_id s.tokens ≡ false → so_far front n s ≡ Got front s
-unfolding many_right
-items_end front zero s h = ap (λ (xs : Items). Got xs s) (append-nil front)
-items_end front (suc n) s h = rw h (ap (λ (xs : Items). Got xs s) (append-nil front))
+-- what fails in a turn fails
+pub fails_in : {S X : Type 0} {size : S → ℕ} {starts : S → Bool} {read : S → Parse Lexeme Id S X} {reads : ℕ → S → Parse Lexeme Id S (List X)} (m : IsMany size starts read reads)
+    (f : Fault Refusal) (front : List X) (s : S) (rest : List Lexeme) (total : Parse Lexeme Id S (List X)) → starts s ≡ true → IsLeft size reads front s total → Fails f rest (read s) → Fails f rest total
+fails_in m Memory front s rest total e h g = tt
+fails_in m (Refused r) front s rest total e h g = stops m front s (refusal_seen r) rest total e g h
 
-pub not_empty_by : (starts : List Lexeme → Bool) → starts [] ≡ false → (ts : List Lexeme) → starts ts ≡ true → 1 ≤ length ts
+-- what is read as v, and then changed by f
+pub gives_changed : {S A X Y : Type 0} (v : A → X) (f : X → Y) (result : Result A (Fault Refusal)) (s : S) (rest : List Lexeme) (p : Parse Lexeme Id S X) (q : Parse Lexeme Id S Y)
+    → q ≡ (p >>= λ x s. Got (f x) s) → GivesAt v result s rest p → GivesAt (λ a. f (v a)) result s rest q
+gives_changed v f (Ok a) s rest p q e g = e ∙ ap (λ p. p >>= λ x s. Got (f x) s) g
+gives_changed v f (Err Memory) s rest p q e g = tt
+gives_changed v f (Err (Refused r)) s rest p q e g = e ∙ ap (λ p. p >>= λ x s. Got (f x) s) g
+
+not_empty_by : (starts : List Lexeme → Bool) → starts [] ≡ false → (ts : List Lexeme) → starts ts ≡ true → 1 ≤ length ts
 not_empty_by starts none [] h = absurd (true≢false (sym h ∙ none))
 not_empty_by starts none (t ∷ ts) h = omega arith
 
-pub right_stops : (f : Fault Refusal) (front : Items) (n : ℕ) (s state : Left Lexeme) (rest ts : List Lexeme) → begins_outer by_id s.tokens ≡ true → length s.tokens ≤ n → so_far front n s ≡ all_items ts
-    → GivesAt item_seen (Err f) state rest (plain_item s) → Gives right_view (Err f) rest (right_side by_id stage ts)
-right_stops Memory front n s state rest ts h le e g = tt
-right_stops (Refused r) front n s state rest ts h le e g =
-    let k = one_more n (omega (arith, not_empty_by (begins_outer by_id) refl s.tokens h)) in
-    ap (λ (p : ItemParse). p >>= λ xs s. Got (row xs) s.tokens) (sym e ∙ ap (λ (m : ℕ). so_far front m s) k ∙ items_stop front (n - 1) s (refusal_seen r) rest h g)
+-- ---- things read from lexemes
 
-pub right_more : (front : Items) (n : ℕ) (s t : Left Lexeme) (x : Item (SymbolText Id)) (ts : List Lexeme) → begins_outer by_id s.tokens ≡ true → length s.tokens ≤ n → so_far front n s ≡ all_items ts → plain_item s ≡ Got x t
-    → so_far (front ++ x ∷ []) (n - 1) t ≡ all_items ts
-right_more front n s t x ts h le e g =
-    let k = one_more n (omega (arith, not_empty_by (begins_outer by_id) refl s.tokens h)) in
-    sym (more_items front (n - 1) s t x h g) ∙ ap (λ (m : ℕ). so_far front m s) (sym k) ∙ e
+abbrev pub reads : {X : Type 0} → (List Lexeme → Bool) → Reads Lexeme Id X → ℕ → Reads Lexeme Id (List X)
+reads starts read n ts = many n starts read ts
 
-pub right_ends : (front : Items) (n : ℕ) (s : Left Lexeme) (ts : List Lexeme) → begins_outer by_id s.tokens ≡ false → so_far front n s ≡ all_items ts → right_side by_id stage ts ≡ Got (row front) s.tokens
-right_ends front n s ts h e = ap (λ (p : ItemParse). p >>= λ xs s. Got (row xs) s.tokens) (sym e ∙ items_end front n s h)
+pub many_things : {X : Type 0} (starts : List Lexeme → Bool) (read : Reads Lexeme Id X) → starts [] ≡ false → IsMany length starts read (reads starts read)
+unfolding many
+many_things starts read h = record { none = λ s. refl; more = λ n s. refl; some = not_empty_by starts h }
 
--- ---- things as long as one may begin
+-- ---- items of a right side
 
-module _ {X : Type 0} (starts : List Lexeme → Bool) (read : Reads Lexeme Id X) where
-  abbrev pub many_from : List X → ℕ → List Lexeme → Parse Lexeme Id (List Lexeme) (List X)
-  many_from front n ts = onto front (many n starts read ts)
+abbrev pub size : Left Lexeme → ℕ
+size s = length s.tokens
 
-  one_read : (front : List X) (n : ℕ) (ts rest : List Lexeme) (x : X) → starts ts ≡ true → read ts ≡ Got x rest → many_from front (suc n) ts ≡ many_from (front ++ x ∷ []) n rest
-  unfolding many
-  one_read front n ts rest x h e = rw (h, e) (onto_one front x (many n starts read rest))
+abbrev pub reads_right : {X : Type 0} → (List Lexeme → Bool) → RightReads by_id X → ℕ → RightReads by_id (List X)
+reads_right starts read n s = many_right by_id n starts read s
 
-  none_read : (front : List X) (n : ℕ) (ts rest : List Lexeme) (r : parsing.Refusal Id) → starts ts ≡ true → read ts ≡ Stops r rest → many_from front (suc n) ts ≡ Stops r rest
-  unfolding many
-  none_read front n ts rest r h e = rw (h, e) refl
-
-  no_more : (front : List X) (n : ℕ) (ts : List Lexeme) → starts ts ≡ false → many_from front n ts ≡ Got front ts
-  unfolding many
-  no_more front zero ts h = ap (λ (xs : List X). Got xs ts) (append-nil front)
-  no_more front (suc n) ts h = rw h (ap (λ (xs : List X). Got xs ts) (append-nil front))
-
-  pub many_more : (front : List X) (n : ℕ) (ts rest : List Lexeme) (x : X) (total : Parse Lexeme Id (List Lexeme) (List X)) → starts [] ≡ false → starts ts ≡ true → length ts ≤ n → many_from front n ts ≡ total → read ts ≡ Got x rest
-      → many_from (front ++ x ∷ []) (n - 1) rest ≡ total
-  many_more front n ts rest x total none h le e g =
-      let k = one_more n (omega (arith, not_empty_by starts none ts h)) in
-      sym (one_read front (n - 1) ts rest x h g) ∙ ap (λ (m : ℕ). many_from front m ts) (sym k) ∙ e
-
-  pub many_stops : (front : List X) (n : ℕ) (ts rest : List Lexeme) (r : parsing.Refusal Id) (total : Parse Lexeme Id (List Lexeme) (List X)) → starts [] ≡ false → starts ts ≡ true → length ts ≤ n → many_from front n ts ≡ total → read ts ≡ Stops r rest
-      → total ≡ Stops r rest
-  many_stops front n ts rest r total none h le e g =
-      let k = one_more n (omega (arith, not_empty_by starts none ts h)) in
-      sym e ∙ ap (λ (m : ℕ). many_from front m ts) k ∙ none_read front (n - 1) ts rest r h g
-
-  pub many_ends : (front : List X) (n : ℕ) (ts : List Lexeme) (total : Parse Lexeme Id (List Lexeme) (List X)) → starts ts ≡ false → many_from front n ts ≡ total → total ≡ Got front ts
-  many_ends front n ts total h e = sym e ∙ no_more front n ts h
-
--- ---- clauses
-
-abbrev Clauses : Type 0
-Clauses = Parse Lexeme Id (List Lexeme) (List (Clause Id))
-
-abbrev pub clauses_from : List (Clause Id) → ℕ → List Lexeme → Clauses
-clauses_from front n ts = onto front (clauses by_id stage n [] ts)
-
-abbrev read_clause : List (Clause Id) → ℕ → Parse Lexeme Id (List Lexeme) (Clause Id) → Clauses
-read_clause front n p = onto front (p >>= λ c rest. clauses by_id stage n (with_name c []) rest >>= λ cs rest. Got (c ∷ cs) rest)
-
-clause_more : (front : List (Clause Id)) (n : ℕ) (ts rest : List Lexeme) (x : RuleText Id) → 1 ≤ length ts → clause by_id stage [] ts ≡ Got (RuleClause x) rest → clauses_from front (suc n) ts ≡ clauses_from (front ++ RuleClause x ∷ []) n rest
-unfolding clauses
-clause_more front n [] rest x h e = absurd (omega arith)
-clause_more front n (t ∷ ts) rest x h e = ap (read_clause front n) e ∙ onto_one front (RuleClause x) (clauses by_id stage n [] rest)
-
-clause_stops : (front : List (Clause Id)) (n : ℕ) (ts rest : List Lexeme) (r : parsing.Refusal Id) → 1 ≤ length ts → clause by_id stage [] ts ≡ Stops r rest → clauses_from front (suc n) ts ≡ Stops r rest
-unfolding clauses
-clause_stops front n [] rest r h e = absurd (omega arith)
-clause_stops front n (t ∷ ts) rest r h e = ap (read_clause front n) e
-
-pub clauses_end : (front : List (Clause Id)) (n : ℕ) (ts : List Lexeme) (total : Clauses) → length ts ≡ 0 → clauses_from front n ts ≡ total → total ≡ Got front ts
-unfolding clauses
-clauses_end front n [] total h e = sym e ∙ ap (λ (cs : List (Clause Id)). Got cs []) (append-nil front)
-clauses_end front n (t ∷ ts) total h e = absurd (omega arith)
-
-pub clauses_more : (front : List (Clause Id)) (n : ℕ) (ts rest : List Lexeme) (x : RuleText Id) (total : Clauses) → 1 ≤ length ts → length ts ≤ n → clauses_from front n ts ≡ total → clause by_id stage [] ts ≡ Got (RuleClause x) rest
-    → clauses_from (front ++ RuleClause x ∷ []) (n - 1) rest ≡ total
-clauses_more front n ts rest x total one le e g = sym (clause_more front (n - 1) ts rest x one g) ∙ ap (λ (m : ℕ). clauses_from front m ts) (sym (one_more n (omega arith))) ∙ e
-
-pub clauses_stop : (f : Fault Refusal) (front : List (Clause Id)) (n : ℕ) (ts rest : List Lexeme) (total : Clauses) → 1 ≤ length ts → length ts ≤ n → clauses_from front n ts ≡ total
-    → Gives rule_view (Err f) rest (clause by_id stage [] ts) → Gives (λ (v : Vec code_rule.RuleText Global). map rule_view v.items) (Err f) rest total
-clauses_stop Memory front n ts rest total one le e g = tt
-clauses_stop (Refused r) front n ts rest total one le e g = sym e ∙ ap (λ (m : ℕ). clauses_from front m ts) (one_more n (omega arith)) ∙ clause_stops front (n - 1) ts rest (refusal_seen r) one g
+pub many_items : {X : Type 0} (starts : List Lexeme → Bool) (read : RightReads by_id X) → starts [] ≡ false → IsMany size (λ s. starts s.tokens) read (reads_right starts read)
+unfolding many_right
+many_items starts read h = record { none = λ s. refl; more = λ n s. refl; some = λ s. not_empty_by starts h s.tokens }

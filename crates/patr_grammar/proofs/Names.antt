@@ -1,6 +1,6 @@
 -- What many proofs here name of the definitions and of the crates below.
-pub use Rattle.patr_grammar.specs.Reading.{IsGrammar, IsRefusedFor, IsText, StandsFor, element_seen, equation_seen, feature_seen, grammar_seen, item_seen, lexical_rule_seen, rule_seen, template_seen}
-pub use Rattle.patr_grammar.specs.Views.{Answers, AnswersFeatures, AreRules, Gives, GivesAt, IsLexeme, IsRefusedAt, IsSpelled, StopsAt, by_id, bytes_of, cause_at, equations_view, features_view, first_place, head_seen, is_among, left_over, place_seen, refusal_seen, right_view, rule_view}
+pub use Rattle.patr_grammar.specs.Reading.{IsGrammar, IsRefusedFor, IsText, StandsFor, element_seen, equation_seen, feature_seen, features_seen, equations_seen, grammar_seen, item_seen, right_seen, lexical_rule_seen, rule_seen, template_seen}
+pub use Rattle.patr_grammar.specs.Views.{Answers, AnswersFeatures, Fails, Gives, GivesAt, AnswersClauses, AreNames, AreRead, Gathers, IsLexeme, IsRefusedAt, IsSpelled, StopsAt, by_id, bytes_of, cause_at, first_place, head_seen, place_seen, refusal_seen, begins_right, rights_seen, right_left, symbols_in, symbols_in_all, group_right, onto, choices_seen, Written, seen_by, begins_by, single_by, as_item, element_by, names_after, of_rules, ReadsClauses}
 pub use Rattle.patr_grammar.specs.declared.lexeme.Lexeme.{Lexeme}
 pub use Rattle.patr_model.specs.Agreeing.{SameEquationText, SameFeatureText, SameLexicalRule, SameOutcome, SamePathText, SameRefusal, SameRuleText, SameSymbolText, SameTemplate, SameTermText, WordsAgree}
 pub use Rattle.patr_model.specs.Built.{stage}

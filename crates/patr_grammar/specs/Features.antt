@@ -39,5 +39,5 @@ abbrev pub AreRefusedFor : Stage → List ℕ → List code.Token → Fault Gram
 AreRefusedFor s text ts Memory = Unit {0}
 AreRefusedFor s text ts (Refused (cause.Expected line column what)) = features_in s text ts ≡ refused_at (parsing.Expected what) line column
 AreRefusedFor s text ts (Refused (cause.PathTooLong line column)) = features_in s text ts ≡ refused_at parsing.PathTooLong line column
-AreRefusedFor s text ts (Refused (cause.LaterForm line column)) = features_in s text ts ≡ refused_at parsing.LaterForm line column
+AreRefusedFor s text ts (Refused (cause.TooDeep line column)) = features_in s text ts ≡ refused_at parsing.TooDeep line column
 AreRefusedFor s text ts (Refused _) = ⊥

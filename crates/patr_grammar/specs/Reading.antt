@@ -1,9 +1,9 @@
 -- What bytes stand for, as the code has it: a grammar, or why they stand for none.
 use Rattle.std.specs.Prelude.{◌≡◌, ℕ, List, map, Some, slice_get}
-use Rattle.patr_model.specs.Grammar.{Row}
+use Rattle.patr_model.specs.Tokens.{Place}
 use Rattle.patr_model.specs.Parsing as parsing
 use Rattle.patr_model.specs.Productions as production
-use Rattle.patr_model.specs.Productions.{Grammar, FeatureText, Equates, row, Single}
+use Rattle.patr_model.specs.Productions.{Grammar}
 use Rattle.patr_model.specs.GrammarText as reading
 use Rattle.patr_model.specs.Faults.{NotText, Misread}
 use Rattle.patr_model.specs.GrammarText.{GrammarFault, ReadsGrammar, RefusesGrammar}
@@ -12,15 +12,6 @@ use Rattle.patr_model.specs.Built.{stage}
 use Rattle.patr_text.specs.declared.symbols.Id.{Id}
 use Rattle.patr_text.specs.declared.fault.Fault.{Fault}
 use Rattle.patr_text.specs.declared.fault.Fault.TheVariants.{Memory, Refused}
-use Rattle.patr_grammar.specs.declared.grammar.SymbolText as code_symbol
-use Rattle.patr_grammar.specs.declared.grammar.Item as code_item
-use Rattle.patr_grammar.specs.declared.grammar.Item.TheVariants as item
-use Rattle.patr_grammar.specs.declared.grammar.PathText as code_path
-use Rattle.patr_grammar.specs.declared.grammar.TermText as code_term
-use Rattle.patr_grammar.specs.declared.grammar.TermText.TheVariants as term
-use Rattle.patr_grammar.specs.declared.grammar.EquationText as code_equation
-use Rattle.patr_grammar.specs.declared.grammar.Element.{Element}
-use Rattle.patr_grammar.specs.declared.grammar.Element.TheVariants.{Equation}
 use Rattle.patr_grammar.specs.declared.grammar.RuleText as code_rule
 use Rattle.patr_grammar.specs.declared.grammar.Template as code_template
 use Rattle.patr_grammar.specs.declared.grammar.LexicalRule as code_lexical
@@ -28,51 +19,11 @@ use Rattle.patr_grammar.specs.declared.grammar.Grammar as code_grammar
 use Rattle.patr_grammar.specs.declared.grammar.GrammarCause.{GrammarCause}
 use Rattle.patr_grammar.specs.declared.grammar.GrammarCause.TheVariants as cause
 use Rattle.patr_grammar.specs.Defaults.{paths_seen}
+pub use Rattle.patr_grammar.specs.Levels.{symbol_seen, item_seen, right_seen, path_seen, term_seen, equation_seen, element_seen, equations_seen, feature_seen, features_seen}
 
 -- the number has this text in the table
 abbrev pub IsText : List (List ℕ) → Id → List ℕ → Type 0
 IsText table id text = slice_get table id.0 ≡ Some text
-
--- a symbol of the code
-abbrev pub symbol_seen : code_symbol.SymbolText → production.SymbolText Id
-symbol_seen s = record { symbol = s.symbol; category = s.category }
-
--- an item of a right side of the code
-abbrev pub item_seen : code_item.Item → production.Item (production.SymbolText Id)
-item_seen (item.Symbol s) = Single (symbol_seen s)
-
--- a right side of the code
-abbrev pub right_seen : List code_item.Item → Row (production.SymbolText Id)
-right_seen items = row (map item_seen items)
-
--- a path of the code
-abbrev pub path_seen : code_path.PathText → production.PathText Id
-path_seen p = record { head = p.head; attributes = p.attributes.items }
-
--- the right side of an equation of the code
-abbrev pub term_seen : code_term.TermText → production.TermText Id
-term_seen (term.Atom a) = production.AtomText a
-term_seen (term.Path p) = production.OfPath (path_seen p)
-
--- an equation of the code
-abbrev pub equation_seen : code_equation.EquationText → production.EquationText Id
-equation_seen e = record { left = path_seen e.left; right = term_seen e.right }
-
--- an element among the equations of a rule of the code
-abbrev pub element_seen : Element → production.Item (production.EquationText Id)
-element_seen (Equation e) = Single (equation_seen e)
-
--- the equations of a rule of the code
-abbrev pub equations_seen : List Element → Row (production.EquationText Id)
-equations_seen es = row (map element_seen es)
-
--- an element of features of the code
-abbrev pub feature_seen : Element → production.Item (FeatureText Id)
-feature_seen (Equation e) = Single (Equates (equation_seen e))
-
--- features of the code
-abbrev pub features_seen : List Element → Row (FeatureText Id)
-features_seen es = row (map feature_seen es)
 
 -- a rule of the code
 abbrev pub rule_seen : code_rule.RuleText → production.RuleText Id
@@ -105,18 +56,28 @@ IsGrammar table g t = SameGrammar (IsText table) (grammar_seen g) t
 abbrev pub StandsFor : List (List ℕ) → List ℕ → code_grammar.Grammar → Type 0
 StandsFor table bytes g = (t : Grammar (List ℕ)) × ReadsGrammar stage bytes t × IsGrammar table g t
 
--- a cause of the code
-abbrev pub fault_of : GrammarCause → GrammarFault
-fault_of (cause.NotUtf8 at) = NotText at
-fault_of (cause.BadToken line column) = Misread (reading.BadToken (record { line = line; column = column }))
-fault_of (cause.Expected line column what) = Misread (reading.Refused (parsing.Expected what) (record { line = line; column = column }))
-fault_of (cause.NotAConstituent line column) = Misread (reading.Refused parsing.NotAConstituent (record { line = line; column = column }))
-fault_of (cause.PathTooLong line column) = Misread (reading.Refused parsing.PathTooLong (record { line = line; column = column }))
-fault_of (cause.TooManySymbols line column) = Misread (reading.Refused parsing.TooManySymbols (record { line = line; column = column }))
-fault_of cause.NoRules = Misread reading.NoRules
-fault_of (cause.LaterForm line column) = Misread (reading.Refused parsing.LaterForm (record { line = line; column = column }))
+-- a place of the code
+abbrev pub place_at : ℕ → ℕ → Place
+place_at line column = record { line = line; column = column }
+
+-- the token at this place, or the end, is refused
+abbrev pub refused_at : parsing.Refusal (List ℕ) → ℕ → ℕ → GrammarFault
+refused_at r line column = Misread (reading.Refused r (place_at line column))
+
+-- a cause of the code is this fault by the table
+abbrev pub IsFault : List (List ℕ) → GrammarCause → GrammarFault → Type 0
+IsFault table (cause.NotUtf8 at) f = f ≡ NotText at
+IsFault table (cause.BadToken line column) f = f ≡ Misread (reading.BadToken (place_at line column))
+IsFault table (cause.Expected line column what) f = f ≡ refused_at (parsing.Expected what) line column
+IsFault table (cause.NotAConstituent line column) f = f ≡ refused_at parsing.NotAConstituent line column
+IsFault table (cause.TwiceNamed line column name) f = (t : List ℕ) × IsText table name t × (f ≡ refused_at (parsing.TwiceNamed t) line column)
+IsFault table (cause.PathTooLong line column) f = f ≡ refused_at parsing.PathTooLong line column
+IsFault table (cause.TooManySymbols line column) f = f ≡ refused_at parsing.TooManySymbols line column
+IsFault table cause.NoRules f = f ≡ Misread reading.NoRules
+IsFault table (cause.TooDeep line column) f = f ≡ refused_at parsing.TooDeep line column
+IsFault table (cause.LaterForm line column) f = f ≡ refused_at parsing.LaterForm line column
 
 -- a refusal is due; want of memory may come at any time
-abbrev pub IsRefusedFor : List ℕ → Fault GrammarCause → Type 0
-IsRefusedFor bytes Memory = Unit {0}
-IsRefusedFor bytes (Refused c) = RefusesGrammar stage bytes (fault_of c)
+abbrev pub IsRefusedFor : List (List ℕ) → List ℕ → Fault GrammarCause → Type 0
+IsRefusedFor table bytes Memory = Unit {0}
+IsRefusedFor table bytes (Refused c) = (f : GrammarFault) × RefusesGrammar stage bytes f × IsFault table c f

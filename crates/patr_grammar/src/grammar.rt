@@ -1,7 +1,9 @@
 //! What the bytes of a grammar stand for.
 ghost use Rattle.std.specs.Prelude.{◌≡◌, ◌<◌, ◌≤◌, ◌^◌, [], length};
 ghost use Rattle.patr_model.specs.GrammarText.{what_text};
+ghost use Rattle.patr_model.specs.Productions.{things};
 ghost use Rattle.patr_grammar.specs.Defaults.{paths_seen, by_category};
+ghost use Rattle.patr_grammar.specs.Levels.{right_seen};
 
 use patr_model::What;
 use patr_text::Id;
@@ -15,10 +17,14 @@ pub struct SymbolText {
 }
 
 /// An item of a right side.
-#[derive(Clone, Copy, Debug, PartialEq, Eq)]
+#[derive(Debug, Drop)]
 pub enum Item {
     /// A constituent.
     Symbol(SymbolText),
+    /// `( a / b )`: one of these alternatives, or nothing.
+    Optional(Vec<Vec<Item>>),
+    /// `{ a / b }`: one of these alternatives.
+    OneOf(Vec<Vec<Item>>),
 }
 
 /// A path: the symbol of the constituent at which it begins, where it has one, and its attributes.
@@ -49,6 +55,10 @@ pub struct EquationText {
 pub enum Element {
     /// A path equation.
     Equation(EquationText),
+    /// The name of a template, in features alone, and the place where it stands.
+    Name { name: Id, line: u32, column: u32 },
+    /// `{ a / b }`: one of these alternatives.
+    OneOf(Vec<Vec<Element>>),
 }
 
 /// A rule as it is written.
@@ -62,7 +72,7 @@ pub struct RuleText {
     pub right: Vec<Item>,
     /// In each path the first word is a symbol of the rule.
     pub equations: Vec<Element>,
-    ghost few: { length right.items ≤ 32 },
+    ghost few: { length (things (right_seen right.items)) ≤ 32 },
 }
 
 /// A template as it is written.
@@ -98,8 +108,7 @@ pub struct Grammar {
     /// The attributes that are written first, in this order.
     pub order: Vec<Id>,
     ghost few: { length rules.items < 2 ^ 32 },
-    // No clause but a rule is built yet.
-    ghost no_templates: { templates.items ≡ [] },
+    // No lexical rule and no parameter is built yet.
     ghost no_lexical_rules: { lexical_rules.items ≡ [] },
     ghost default_restrictor: { paths_seen restrictor.items ≡ by_category },
     ghost no_order: { order.items ≡ [] },
@@ -120,6 +129,9 @@ pub enum GrammarCause {
     /// The first word of a path is no symbol of its rule.
     #[error("{line}:{column}: not a constituent")]
     NotAConstituent { line: u32, column: u32 },
+    /// A template has the name of one that stands before it.
+    #[error("{line}:{column}: name given twice")]
+    TwiceNamed { line: u32, column: u32, name: Id },
     /// A path has more than 32 attributes; the first too many stands here.
     #[error("{line}:{column}: path too long")]
     PathTooLong { line: u32, column: u32 },
@@ -129,6 +141,9 @@ pub enum GrammarCause {
     /// There is no rule.
     #[error("no rules")]
     NoRules,
+    /// Groups and choices are open in 16 levels, and here begins one more.
+    #[error("{line}:{column}: too deep")]
+    TooDeep { line: u32, column: u32 },
     /// A form that is not built yet begins here.
     #[error("{line}:{column}: not built yet")]
     LaterForm { line: u32, column: u32 },

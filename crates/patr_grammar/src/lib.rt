@@ -1,6 +1,8 @@
 //! The notation of grammars: what the bytes of a grammar stand for, or why they stand for none.
 #![tactic(auto)]
 
+mod clauses;
+mod elements;
 mod equations;
 mod grammar;
 mod head;
@@ -9,6 +11,7 @@ mod numbering;
 mod place;
 mod reader;
 mod reading;
+mod right;
 mod words;
 
 pub use grammar::{

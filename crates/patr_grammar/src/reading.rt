@@ -8,9 +8,10 @@ ghost use Rattle.patr_text.specs.Texts.{Extends};
 ghost use Rattle.patr_grammar.specs.Defaults.{cat_number};
 ghost use Rattle.patr_grammar.specs.Reading.{StandsFor, IsRefusedFor};
 ghost use Rattle.patr_grammar.specs.Features.{StandForFeatures, AreRefusedFor};
-ghost use Rattle.patr_grammar.specs.Views.{IsSpelled, bytes_of, by_id, cause_at, AnswersRules, Answers, AnswersFeatures};
+ghost use Rattle.patr_grammar.specs.Views.{IsSpelled, bytes_of, by_id, cause_at, AnswersClauses, Answers, AnswersFeatures};
 
-use crate::grammar::{Element, Grammar, GrammarCause, RuleText};
+use crate::clauses::Clauses;
+use crate::grammar::{Element, Grammar, GrammarCause};
 use crate::lexeme::Lexeme;
 use crate::numbering::lexemes;
 use crate::place::{Place, place_of};
@@ -26,19 +27,26 @@ fn cause_at(refusal: Refusal, place: Place) -> GrammarCause
     match refusal {
         Refusal::Expected(what) => GrammarCause::Expected { line, column, what },
         Refusal::NotAConstituent => GrammarCause::NotAConstituent { line, column },
+        Refusal::TwiceNamed(name) => GrammarCause::TwiceNamed { line, column, name },
         Refusal::PathTooLong => GrammarCause::PathTooLong { line, column },
         Refusal::TooManySymbols => GrammarCause::TooManySymbols { line, column },
+        Refusal::TooDeep => GrammarCause::TooDeep { line, column },
         Refusal::LaterForm => GrammarCause::LaterForm { line, column },
     }
 }
 
-/// The grammar of these rules, whose start symbol is the first one's category. `Fault::Refused` says
-/// that there is no rule.
-fn grammar_of(alloc: Global, rules: Vec<RuleText>) -> Result<Grammar, Fault<GrammarCause>>
-    requires { length rules.items < 2 ^ 32 }
-    ensures answers { AnswersRules rules.items result }
-    ensures few { IfOk result (λ g. length g.rules.items ≤ length rules.items) }
+/// The grammar of these clauses, whose start symbol is the first rule's category. `Fault::Refused`
+/// says that there is no rule.
+fn grammar_of(alloc: Global, clauses: Clauses) -> Result<Grammar, Fault<GrammarCause>>
+    requires { length clauses.rules.items < 2 ^ 32 }
+    ensures answers { AnswersClauses clauses result }
+    ensures few { IfOk result (λ g. length g.rules.items ≤ length clauses.rules.items) }
 {
+    let Clauses {
+        rules,
+        templates,
+        ..
+    } = clauses;
     if rules.is_empty() {
         return Err(Fault::Refused(GrammarCause::NoRules));
     }
@@ -47,7 +55,7 @@ fn grammar_of(alloc: Global, rules: Vec<RuleText>) -> Result<Grammar, Fault<Gram
     Ok(Grammar {
         start: rules[0].mother.category,
         rules,
-        templates: Vec::new(alloc),
+        templates,
         lexical_rules: Vec::new(alloc),
         restrictor,
         order: Vec::new(alloc),
@@ -64,7 +72,7 @@ fn read(alloc: Global, text: &str, lexemes: &[Lexeme]) -> Result<Grammar, Fault<
     let rest = lexemes;
     let mut reader = Reader { alloc, rest };
     match reader.clauses() {
-        Ok(rules) => grammar_of(alloc, rules),
+        Ok(clauses) => grammar_of(alloc, clauses),
         Err(Fault::Memory) => Err(Fault::Memory),
         Err(Fault::Refused(refusal)) => {
             let place = place_of(text, reader.rest);
@@ -85,7 +93,7 @@ pub fn read_grammar(
     requires { length symbols.old + length bytes.now < 2 ^ 32 - 1 }
     ensures reads { IfOk result (λ g. StandsFor symbols.new bytes.now g) }
     ensures few { IfOk result (λ g. length g.rules.items ≤ length bytes.now) }
-    ensures refused { IfErr result (λ fault. IsRefusedFor bytes.now fault) }
+    ensures refused { IfErr result (λ fault. IsRefusedFor symbols.new bytes.now fault) }
     ensures extends { Extends symbols.old symbols.new }
     ensures growth { length symbols.new ≤ length symbols.old + length bytes.now }
 {
@@ -132,7 +140,7 @@ fn features(
 /// What features stand for, whose tokens are slices of a text and end with it, with the numbers that
 /// the table gives to their words.
 ///
-/// `Fault::Refused` says why they stand for none: `Expected`, `PathTooLong` or `LaterForm` alone.
+/// `Fault::Refused` says why they stand for none: `Expected`, `PathTooLong` or `TooDeep` alone.
 /// The table keeps the texts that it had, also after an error.
 pub fn read_elements(
     alloc: Global,

@@ -1,5 +1,5 @@
 -- Without equations, a build states categories, words and glosses alone.
-use Rattle.std.proofs.Common.{◌≡◌, inl, ℕ, ◌<◌, false, true≢false, cond, nat_eq, ne_eqb, List, [], ◌∷◌, append-nil, map, length, codes, Option, Some, None, refl, sym, ap, ◌∙◌, subst, arith}
+use Rattle.std.proofs.Common.{◌≡◌, inl, ℕ, ◌<◌, Bool, false, true≢false, cond, nat_eq, ne_eqb, List, [], ◌∷◌, append-nil, map, length, codes, Option, Some, None, refl, sym, ap, ◌∙◌, subst, arith}
 use Rattle.std.specs.List.{AllByRecursion}
 use Rattle.std.proofs.lemmas.List.{length-map}
 use Rattle.patr_lists.proofs.Alls.{all_map, all_flat}
@@ -11,7 +11,7 @@ use Rattle.patr_model.specs.Plain.{IsBare, bare, stated, arcs_for, IsFact}
 use Rattle.patr_model.specs.Session.{Numbering}
 use Rattle.patr_model.specs.Productions.{SymbolText, EquationText, RuleText, Grammar}
 use Rattle.patr_model.specs.LexiconText.{EntryOf}
-use Rattle.patr_model.specs.Build.{Keys, rule_variant_of, rule_variants, feature_variants, gloss_fact, facts_of, entry_variant_of, entry_variants, build}
+use Rattle.patr_model.specs.Build.{Keys, rule_variant_of, rule_variants, feature_equation, equation_variants, gloss_fact, facts_of, entry_variant_of, Meaning, written_out, meanings, entry_variants, build}
 use Rattle.patr_laws.specs.Bare.{AreDistinct, HasNoEquations, BuildsAreBare}
 use Rattle.patr_model.proofs.Canonical.{same_true}
 use Rattle.patr_model.proofs.StatedCategories.{categories_are_bare, everything, every_rule, every_entry}
@@ -20,7 +20,7 @@ use Rattle.patr_model.proofs.StatedCategories.{categories_are_bare, everything, 
 one_empty : {X Y : Type 0} (f : X → List (List Y)) (r : Row X) → r ≡ Done → AllByRecursion (λ ys. ys ≡ []) (variants f r)
 one_empty f r e = subst (λ q. AllByRecursion (λ ys. ys ≡ []) (variants f q)) (sym e) (refl, tt)
 
-module _ {W : Type 0} (number : W → ℕ) (keys : Keys) where
+module _ {W : Type 0} (number : W → ℕ) (same : W → W → Bool) (keys : Keys) where
   abbrev BareRule : RuleVariant → Type 0
   BareRule rule = (rule.equations ≡ bare keys.cat 0 rule.categories) × (0 < length rule.categories)
 
@@ -54,16 +54,16 @@ module _ {W : Type 0} (number : W → ℕ) (keys : Keys) where
           (ap (λ b. cond b (Some (Atom (number w))) None) (ne_eqb keys.gloss keys.lex (λ q. apart.lex_gloss (sym q))), (refl, tt)),
         )
 
-    bare_entry : (e : EntryOf W) → e.features ≡ Done → AllByRecursion BareEntry (entry_variants number keys e)
-    bare_entry e none =
+    bare_entry : (ms : List (Meaning W)) (e : EntryOf W) → e.features ≡ Done → AllByRecursion BareEntry (entry_variants number same keys ms e)
+    bare_entry ms e none =
         all_map BareEntry (entry_variant_of number keys e) (λ es. es ≡ [])
         (λ es q. subst (λ fs. BareEntry (entry_variant_of number keys e fs)) (sym q) (facts_of number keys e, append-nil _, facts_distinct e, refl, inl (refl, refl)))
-        (variants (feature_variants number) e.features) (one_empty (feature_variants number) e.features none)
+        (equation_variants number (written_out same ms e.features)) (one_empty (λ q. single (feature_equation number q)) (written_out same ms e.features) (ap (written_out same ms) none))
 
-    pub is_bare : (g : Grammar W) (l : List (EntryOf W)) → map (map number) g.restrictor ≡ (keys.cat ∷ []) ∷ [] → HasNoEquations g l → IsBare (build number keys g l) keys.cat
+    pub is_bare : (g : Grammar W) (l : List (EntryOf W)) → map (map number) g.restrictor ≡ (keys.cat ∷ []) ∷ [] → HasNoEquations g l → IsBare (build number same keys g l) keys.cat
     is_bare g l restrictor none = record {
-      rules = every_rule number keys g l BareRule (λ r. r.equations ≡ Done) bare_rule none.rules;
-      entries = every_entry number keys g l BareEntry (λ e. e.features ≡ Done) bare_entry none.entries;
+      rules = every_rule number same keys g l BareRule (λ r. r.equations ≡ Done) bare_rule none.rules;
+      entries = every_entry number same keys g l BareEntry (λ e. e.features ≡ Done) (bare_entry (meanings same g.templates)) none.entries;
       restrictor = restrictor;
     }
 
@@ -74,8 +74,8 @@ texts_differ N a b other e =
 
 pub builds_are_bare : BuildsAreBare
 builds_are_bare = record {
-  by_texts = λ number keys g l apart restrictor none. is_bare number keys apart g l restrictor none;
-  by_numbers = λ number keys g l apart restrictor none. is_bare number keys apart g l restrictor none;
+  by_texts = λ number same keys g l apart restrictor none. is_bare number same keys apart g l restrictor none;
+  by_numbers = λ number same keys g l apart restrictor none. is_bare number same keys apart g l restrictor none;
   keys = λ N. record {
     cat_lex = texts_differ N (codes "cat") (codes "lex") refl;
     cat_gloss = texts_differ N (codes "cat") (codes "gloss") refl;

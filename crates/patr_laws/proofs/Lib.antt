@@ -9,4 +9,9 @@ pub mod SpelledEntries
 pub mod BareBuilds
 pub mod Licensed
 pub mod Table
+pub mod SessionReplies
 pub mod PlainReplies
+pub mod Counterparts
+pub mod Gathered
+pub mod SplitReplies
+pub mod WrittenOut

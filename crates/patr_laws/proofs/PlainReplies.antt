@@ -1,12 +1,13 @@
 -- Without written equations, the replies by categories alone and by solutions are the same.
-use Rattle.std.proofs.Common.{◌≡◌, inl, inr, ℕ, suc, Bool, true, false, List, [], ◌∷◌, map, Option, Some, None, MatchBool, ap}
+use Rattle.std.proofs.Common.{inl, inr, ℕ, suc, Bool, true, false, List, [], ◌∷◌, map, ap}
 use Rattle.patr_lists.proofs.Alls.{all_weaker}
 use Rattle.patr_model.specs.Derivation.{Rules, Derivation}
 use Rattle.patr_model.specs.Chart.{Judgement, InChart, IsChart, HasMoreThan, IsAnalysis}
 use Rattle.patr_model.specs.Plain.{plain, IsBare}
 use Rattle.patr_model.specs.Solved.{solved}
-use Rattle.patr_model.specs.Session.{Grounds, State, cat_of, Judge, LineForms, Command, Limit, Features, Count, Show, Grammar, Make, Quit, begins_with_colon, words_of, AreAnalyses, ListsAnalyses, CountsEdges, IsSentenceReply, too_long, unknown, too_many, analyses, IsColonReply, IsWordsReply, IsLineReply, not_text, spelled, Replied}
+use Rattle.patr_model.specs.Session.{Grounds, State, cat_of, Judge, AreAnalyses, ListsAnalyses, CountsEdges, IsSentenceReply, too_long, unknown, too_many, analyses}
 use Rattle.patr_model.specs.Notations.{lines_with_commands}
+use Rattle.patr_model.specs.Bytes.{same_text}
 use Rattle.patr_model.specs.Build.{keys_of}
 use Rattle.patr_model.proofs.PlainSolved.{bare_has, bare_chains, plain_is_solvable, solvable_is_plain}
 use Rattle.patr_model.proofs.Wholes.{solved_go_by_category}
@@ -16,6 +17,7 @@ use Rattle.patr_totality.proofs.Least.{decide_least}
 use Rattle.patr_totality.proofs.Charts.{plain_charts}
 use Rattle.patr_laws.specs.Bare.{by_categories, SameReplies, WithoutEquationsNothingChanges}
 use Rattle.patr_laws.proofs.BareBuilds.{builds_are_bare}
+use Rattle.patr_laws.proofs.SessionReplies.{lines_replied}
 
 -- ---- replies by one judgement are those by another that has the same edges and the same analyses
 
@@ -66,36 +68,6 @@ module _ (J K : Judge) (s : Grounds) (forth : Carries J K s) (back : Carries K J
       let vs = map s.names.number ws in
       analyses l all (λ m. less (more_carried k j s.rules vs (back.edges vs) st.limit m)) (a.0, a.1, a.2, analyses_carried vs a.0 a.3, lines_carried st.features 1 a.0 a.1 a.4, count_carried vs st.count a.2 a.5, a.6)
 
-  module _ (forms : LineForms) where
-    colon_carried : (st : State) (o : Option Command) (text : List ℕ) (st' : State) → IsColonReply J forms s st o text st' → IsColonReply K forms s st o text st'
-    colon_carried st None text st' c = c
-    colon_carried st (Some (Limit n)) text st' c = c
-    colon_carried st (Some (Features b)) text st' c = c
-    colon_carried st (Some (Count b)) text st' c = c
-    colon_carried st (Some (Show w)) text st' c = c
-    colon_carried st (Some Grammar) text st' c = c
-    colon_carried st (Some (Make n)) text st' c = c
-    colon_carried st (Some Quit) text st' c = c
-
-    words_carried : (st : State) (ws : List (List ℕ)) (text : List ℕ) (st' : State) → IsWordsReply J forms s st ws text st' → IsWordsReply K forms s st ws text st'
-    words_carried st [] text st' r = r
-    words_carried st (w ∷ ws) text st' r = go (begins_with_colon (w ∷ ws)) r
-      where
-        go : (b : Bool) → MatchBool b (IsColonReply J forms s st (forms.command (w ∷ ws)) text st') (IsSentenceReply J s st (w ∷ ws) text × (st' ≡ st))
-            → MatchBool b (IsColonReply K forms s st (forms.command (w ∷ ws)) text st') (IsSentenceReply K s st (w ∷ ws) text × (st' ≡ st))
-        go true c = colon_carried st (forms.command (w ∷ ws)) text st' c
-        go false c = (sentence_carried st (w ∷ ws) text c.0, c.1)
-
-    line_carried : (st : State) (l text : List ℕ) (st' : State) → IsLineReply J forms s st l text st' → IsLineReply K forms s st l text st'
-    line_carried st l text st' (too_long h e q) = too_long h e q
-    line_carried st l text st' (not_text h u e q) = not_text h u e q
-    line_carried st l text st' (spelled h u r) = spelled h u (words_carried st (words_of l) text st' r)
-
-    lines_replied : (st : State) (ls : List (List ℕ)) (text : List ℕ) (quit : Bool) → Replied J forms s st ls text quit → Replied K forms s st ls text quit
-    lines_replied st [] text quit r = r
-    lines_replied st (l ∷ ls) text quit (inl q) = inl q
-    lines_replied st (l ∷ ls) text quit (inr r) = inr (r.0, r.1, r.2, r.3, line_carried st l r.1 r.2 r.4, lines_replied r.2 ls r.3 quit r.5, r.6)
-
 -- ---- categories and solutions
 
 module _ (g : Rules) (cat : ℕ) (is : IsBare g cat) (ws : List ℕ) (t : Derivation) where
@@ -128,11 +100,14 @@ same_replies s is =
     let back : Carries solved by_categories s = record { edges = λ ws t. (plain_charts s.rules (cat_of s) is ws t).1; whole = λ ws t. analysis_plain s.rules (cat_of s) is ws t } in
     record {
       sentences = λ st ws text. (sentence_carried by_categories solved s forth back st ws text, sentence_carried solved by_categories s back forth st ws text);
-      sessions = λ st ls text quit. (lines_replied by_categories solved s forth back lines_with_commands st ls text quit, lines_replied solved by_categories s back forth lines_with_commands st ls text quit);
+      sessions = λ st ls text quit. (
+        lines_replied by_categories solved s s (sentence_carried by_categories solved s forth back) lines_with_commands (λ st c text m. m) st ls text quit,
+        lines_replied solved by_categories s s (sentence_carried solved by_categories s back forth) lines_with_commands (λ st c text m. m) st ls text quit,
+      );
     }
 
 pub nothing_changes : WithoutEquationsNothingChanges
 nothing_changes = record {
   over_variants = same_replies;
-  as_built = λ N g l none paths. same_replies _ (builds_are_bare.by_texts N.number (keys_of N) g l (builds_are_bare.keys N) (ap (map (map N.number)) paths) none);
+  as_built = λ N g l none paths. same_replies _ (builds_are_bare.by_texts N.number same_text (keys_of N) g l (builds_are_bare.keys N) (ap (map (map N.number)) paths) none);
 }

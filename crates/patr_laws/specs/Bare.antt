@@ -24,9 +24,9 @@ pub record HasNoEquations {W : Type 0} (g : Grammar W) (l : List (EntryOf W)) : 
 -- Where nothing is written besides categories, words and glosses, and the category alone is
 -- compared, categories say all that the variants do.
 abbrev pub BuildsAreBareBy : Type 0 → Type 0
-BuildsAreBareBy W = (number : W → ℕ) (keys : Keys) (g : Grammar W) (l : List (EntryOf W))
+BuildsAreBareBy W = (number : W → ℕ) (same : W → W → Bool) (keys : Keys) (g : Grammar W) (l : List (EntryOf W))
     → AreDistinct keys → map (map number) g.restrictor ≡ (keys.cat ∷ []) ∷ [] → HasNoEquations g l
-    → IsBare (build number keys g l) keys.cat
+    → IsBare (build number same keys g l) keys.cat
 
 -- so it is by texts, and by their numbers
 pub record BuildsAreBare : Type 0 where

@@ -1,7 +1,8 @@
 //! What the definitions mean to a reader: how what is read is spelled, what the closed chart is,
-//! and what holds without written equations.
+//! what holds without written equations, and that alternatives are rules.
 #![tactic(auto)]
 
+ghost use Rattle.patr_laws.specs.Alternatives.{AlternativesAreRules};
 ghost use Rattle.patr_laws.specs.Bare.{BuildsAreBare, WithoutEquationsNothingChanges};
 ghost use Rattle.patr_laws.specs.Charts.{ChartIsLicensed};
 ghost use Rattle.patr_laws.specs.Spelling.{ClausesEnd, PathsAreSpelled, EquationsAreSpelled, RulesAreSpelled, GrammarsAreSpelled, FeaturesAreSpelled, EntriesAreSpelled};
@@ -60,4 +61,10 @@ pub fn features_are_spelled()
 /// Lines of words and their categories are read as these entries.
 pub fn entries_are_spelled()
     ensures { EntriesAreSpelled }
+{}
+
+/// A rule whose alternatives are written out as several rules gives the same trees, and the same
+/// replies where they stand at the front of its right side.
+pub fn alternatives_are_rules()
+    ensures { AlternativesAreRules }
 {}

@@ -3,7 +3,7 @@ use Rattle.std.specs.Prelude.{◌≡◌, ℕ, List, map, Result, Ok}
 use Rattle.patr_model.specs.Tokens.{Place}
 use Rattle.patr_model.specs.Grammar.{Row}
 use Rattle.patr_model.specs.Renaming.{Each, SameRow}
-use Rattle.patr_model.specs.Parsing.{Expected, PathTooLong, LaterForm}
+use Rattle.patr_model.specs.Parsing.{Expected, PathTooLong, TooDeep}
 use Rattle.patr_model.specs.Productions.{FeatureText}
 use Rattle.patr_model.specs.Faults.{NotText, Misread}
 use Rattle.patr_model.specs.LexiconText.{EntryText, EntryFault, NoWord, SeveralWords, NoCategory, BadFeatures, BadToken, Fails, LexiconFault, ReadsLexicon, RefusesLexicon}
@@ -47,7 +47,7 @@ fault_of (cause.SeveralWords n) = Misread (Fails (SeveralWords n))
 fault_of (cause.NoCategory n) = Misread (Fails (NoCategory n))
 fault_of (cause.Expected n k what) = Misread (Fails (BadFeatures (Expected what) (place_at n k)))
 fault_of (cause.PathTooLong n k) = Misread (Fails (BadFeatures PathTooLong (place_at n k)))
-fault_of (cause.LaterForm n k) = Misread (Fails (BadFeatures LaterForm (place_at n k)))
+fault_of (cause.TooDeep n k) = Misread (Fails (BadFeatures TooDeep (place_at n k)))
 
 -- the bytes stand for no entries for this cause, or memory was short
 abbrev pub IsRefusedFor : List ℕ → Fault LexiconCause → Type 0

@@ -41,7 +41,7 @@ fn cause_of(cause: GrammarCause) -> LexiconCause
             LexiconCause::Expected { line, column, what }
         }
         GrammarCause::PathTooLong { line, column } => LexiconCause::PathTooLong { line, column },
-        GrammarCause::LaterForm { line, column } => LexiconCause::LaterForm { line, column },
+        GrammarCause::TooDeep { line, column } => LexiconCause::TooDeep { line, column },
         _ => unreachable!(),
     }
 }
@@ -96,7 +96,7 @@ impl<'a> Features<'a> {
     }
 
     /// What the features stand for, whose words are held by the symbols from then on. Refused exactly
-    /// where they stand for none: `Expected`, `PathTooLong` or `LaterForm`. Fails else for want of memory
+    /// where they stand for none: `Expected`, `PathTooLong` or `TooDeep`. Fails else for want of memory
     /// alone. The symbols keep what they hold, whatever the answer.
     pub fn elements(
         &self,

@@ -35,9 +35,9 @@ pub enum LexiconCause {
     /// A path of features has more than 32 attributes; the first too many stands here.
     #[error("lexicon {line}:{column}: path too long")]
     PathTooLong { line: u32, column: u32 },
-    /// A form of features that is not built yet begins here.
-    #[error("lexicon {line}:{column}: not built yet")]
-    LaterForm { line: u32, column: u32 },
+    /// Choices are open in 16 levels, and here begins one more.
+    #[error("lexicon {line}:{column}: too deep")]
+    TooDeep { line: u32, column: u32 },
 }
 
 /// An entry of a lexicon, by the numbers of its texts.
@@ -65,6 +65,10 @@ impl Model for Lexicon {
     ghost use Rattle.std.specs.Prelude.{List, length, ◌<◌, ◌^◌};
     ghost use Rattle.patr_lexicon.specs.declared.lexicon.Entry.{Entry};
     ghost use Rattle.patr_lexicon.specs.Entries.{IsListed};
+    ghost use Rattle.std.specs.Coded.{codes};
+    ghost use Rattle.patr_grammar.specs.contracts.grammar.Element as element;
+
+    ghost coded = { Prim.hlevel (codes, element.the_row.coded) };
 
     ghost Value = { List Entry };
 

@@ -27,17 +27,47 @@ fn shown_path(alloc: Global, symbols: &Symbols, path: &PathText) -> Result<Strin
     Ok(format!(in alloc; "<{shown}>")?)
 }
 
+/// Puts a feature behind a text: of a name with its place.
+fn push_feature(
+    alloc: Global,
+    symbols: &Symbols,
+    feature: &Element,
+    shown: &mut String,
+) -> Result<(), Fail> {
+    match feature {
+        Element::Equation(equation) => {
+            shown.push_str(&shown_path(alloc, symbols, &equation.left)?)?;
+            shown.push_str(" = ")?;
+            match &equation.right {
+                TermText::Atom(atom) => shown.push_str(text(symbols, *atom))?,
+                TermText::Path(path) => shown.push_str(&shown_path(alloc, symbols, path)?)?,
+            }
+        }
+        Element::Name { name, line, column } => {
+            shown.push_str(text(symbols, *name))?;
+            shown.push_str(&format!(in alloc; "@{line}:{column}")?)?;
+        }
+        Element::OneOf(alternatives) => {
+            shown.push_str("{")?;
+            for alternative in alternatives {
+                shown.push_str(" /")?;
+                for feature in alternative {
+                    shown.push_str(" ")?;
+                    push_feature(alloc, symbols, feature, shown)?;
+                }
+            }
+            shown.push_str(" }")?;
+        }
+    }
+    Ok(())
+}
+
 /// Features, with a space before each.
 fn shown_features(alloc: Global, symbols: &Symbols, features: &[Element]) -> Result<String, Fail> {
     let mut shown = String::new(alloc);
     for feature in features {
-        let Element::Equation(equation) = feature;
-        let left = shown_path(alloc, symbols, &equation.left)?;
-        let right = match &equation.right {
-            TermText::Atom(atom) => String::from_str(alloc, text(symbols, *atom))?,
-            TermText::Path(path) => shown_path(alloc, symbols, path)?,
-        };
-        shown.push_str(&format!(in alloc; " {left} = {right}")?)?;
+        shown.push_str(" ")?;
+        push_feature(alloc, symbols, feature, &mut shown)?;
     }
     Ok(shown)
 }
@@ -71,7 +101,7 @@ fn shown<A: Abort>(rt: &A, alloc: Global, bytes: &[u8]) -> Result<String, Fail> 
 }
 
 /// Lexicons, and the entries that they stand for.
-const READ: [(&[u8], &str); 30] = [
+const READ: [(&[u8], &str); 34] = [
     (b"", ""),
     (b"; nothing\n\n \t\r\n  ; nothing else", ""),
     (b"\\w the\n\\c Det\n\\w dog\n\\c N\n", "1 the=Det|3 dog=N|"),
@@ -103,6 +133,16 @@ const READ: [(&[u8], &str); 30] = [
         "1 a=A|3 b=A'a'|",
     ),
     (b"\\w a\n\\c A\n\\f <f> = x", "1 a=A <f> = x|"),
+    (b"\\w a\n\\f  Sg3\n\\c A", "1 a=A Sg3@2:5|"),
+    (b"\\w a\n\\c A\n\\f\n\\f x\n\\f y", "1 a=A x@4:4 y@5:4|"),
+    (
+        b"\\w a\n\\c A\n\\f\xc3\xa9 x\n\\f \xc3\xa9",
+        "1 a=A \u{e9}@4:4|",
+    ),
+    (
+        b"\\w a\n\\c A\n\\f { <f> = p / T } U",
+        "1 a=A { / <f> = p / T@3:16 } U@3:20|",
+    ),
     (
         b"\\w a\n\\c A\n\\f <x y> = ; not\n; this\n\\f z\n <u>\n=v",
         "1 a=A <x y> = z <u> = v|",
@@ -134,7 +174,7 @@ fn entries_are_read(rt: HostRuntime) -> Result<(), Fail> {
 }
 
 /// Lexicons that stand for no entries, and why.
-const REFUSED: [(&[u8], &str); 48] = [
+const REFUSED: [(&[u8], &str); 46] = [
     (b"\\c \x01\xff", "lexicon: not UTF-8 at byte 4"),
     (b"\\w a\n\\g b\n\xff", "lexicon: not UTF-8 at byte 10"),
     (b"\\w\n\\c \x01", "lexicon 2:4: bad character"),
@@ -163,24 +203,19 @@ const REFUSED: [(&[u8], &str); 48] = [
     (b"\\w a\n\\c A\n\\c\n\\f x", "lexicon 1: no category"),
     (b"\n\\w a\n\\w b\n\\c B", "lexicon 2: no category"),
     (b"\\w a\n\\f =\n", "lexicon 1: no category"),
-    (b"\\w a\n\\c A\n\\f Foo", "lexicon 3:4: not built yet"),
-    (b"\\w a\n\\f  Sg3\n\\c A", "lexicon 2:5: not built yet"),
     (
         b"\\w a\n\\c A\n\\f <x> = y {",
-        "lexicon 3:12: not built yet",
+        "lexicon 3:13: expected an equation or a name",
     ),
     (
-        b"\\w a\n\\c A\n\\f\n\\f x\n\\f y",
-        "lexicon 4:4: not built yet",
+        b"\\w a\n\\c A\n\\f { x /\n\\f y\n\\w b",
+        "lexicon 4:5: expected '}'",
     ),
     (
-        b"\\w a\n\\c A\n\\f\xc3\xa9 x\n\\f \xc3\xa9",
-        "lexicon 4:4: not built yet",
+        b"\\w a\n\\c A\n\\f {{{{{{{{{{{{{{{{{",
+        "lexicon 3:20: too deep",
     ),
-    (
-        b"\\w a\n\\c A\n\\f x\n\\w b c",
-        "lexicon 3:4: not built yet",
-    ),
+    (b"\\w a\n\\c A\n\\f x\n\\w b c", "lexicon 4: several words"),
     (
         b"\\w a\n\\c A\n\\f ; x\n\n\t. y",
         "lexicon 5:2: expected an equation or a name",

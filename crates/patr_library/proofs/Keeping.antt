@@ -1,6 +1,6 @@
 -- What is kept of each variant of a rule and of an entry, and of all of them.
 use Rattle.std.proofs.Common.{drop, ◌≡◌, ◌⊎◌, inl, inr, ℕ, ◌+◌, ◌-◌, ◌<◌, List, [], ◌∷◌, ◌++◌, length, length-append, map, take, get_or, Some, slice_get, refl, sym, ap, ◌∙◌, arith, subst, suc, Option, None, Vec, Global}
-use Rattle.patr_library.proofs.Names.{drop_more, take-append-drop, sum_by, length-map, map-append, take_more, append-nil, append_assoc, slice_get-map, slice_get_within, equations_at, variant_at, Feature, Addr, extends_on, Shown, IsShown, arcs_from, Extends, with_block, RuleItem, IsLeastAt, HasBlock, AreKept, IsDealt, AreDealt, IsRuleDealt, HasRuleItem, Numbered, numbered, entries_fault, entry_fault, entry_seen, get_or_from_slice_get, AllByRecursion, length-take-le, AreWithin, SizeFault, first_fault, rule_fault, rules_fault, are_built, Id, Fault, rule_seen, ExpandCause, number, variants_at, AreNumbered, IsRefusedBy, keys, numbered_from, all_numbered, variants_of, StaysWithin, Node, arc, EntryVariant, variants, entry_variant_of, feature_variants, features_seen, Entry, lists_at, Ref, ValueIsHeld, ref_of, value_of, same_number, same_number_held, still_held, EntryItem, IsOwn, own_nodes, own_value, IsEntryDealt, HasEntryItem, NumberedEntry, StaysAlone, all_variants_of, entry_variants_of, variant_of}
+use Rattle.patr_library.proofs.Names.{drop_more, take-append-drop, sum_by, length-map, map-append, take_more, append-nil, append_assoc, slice_get-map, slice_get_within, equations_at, variant_at, Feature, Addr, extends_on, Shown, IsShown, arcs_from, Extends, with_block, RuleItem, IsLeastAt, HasBlock, AreKept, IsDealt, AreDealt, IsRuleDealt, HasRuleItem, Numbered, numbered, entries_fault, ExpandFault, Meaning, entry_seen, get_or_from_slice_get, AllByRecursion, length-take-le, AreWithin, first_fault, rule_fault, rules_fault, EntryIsBuilt, are_built, entry_is_built, Id, Fault, rule_seen, ExpandCause, number, variants_at, AreNumbered, IsRefusedBy, keys, numbered_from, all_numbered, variants_of, StaysWithin, Node, arc, EntryVariant, entry_variant_of, fault_of_features, feature_variants, same, Entry, lists_at, Ref, ValueIsHeld, ref_of, value_of, same_number, same_number_held, still_held, EntryItem, IsOwn, own_nodes, own_value, IsEntryDealt, HasEntryItem, NumberedEntry, StaysAlone, all_variants_of, entry_variants_of, variant_of}
 use Rattle.std.specs.Option.{option_map}
 use Rattle.patr_grammar.specs.declared.grammar.SymbolText.{SymbolText}
 use Rattle.patr_expand.specs.declared.variant.RuleVariant.{RuleVariant}
@@ -152,7 +152,7 @@ all_within (v ∷ vs) f = (subst (λ n. AreWithin n (equations_at v.equations.it
 pub variants_within : (r : RuleText) (vs : List RuleVariant) → variants_at vs ≡ variants_of r → AllByRecursion StaysWithin vs
 variants_within r vs is =
     let g : production.Grammar Id = record { rules = rule_seen r ∷ []; templates = []; lexical_rules = []; start = record { 0 = 0 }; restrictor = []; order = [] } in
-    all_within vs (λ k x h. (are_built number keys g []).within.rules 0 k x (ap (λ l. slice_get l k) (sym is) ∙ h))
+    all_within vs (λ k x h. (are_built number same keys g []).within.rules 0 k x (ap (λ l. slice_get l k) (sym is) ∙ h))
 
 -- one rule more, or one entry
 all_more : {X : Type 0} (n : ℕ) (vss : List (List X)) (vs : List X) → all_numbered n (vss ++ vs ∷ []) ≡ all_numbered n vss ++ numbered_from (n + length vss) 0 vs
@@ -167,21 +167,21 @@ each_more f xs i d h =
     ap (all_numbered 0) (ap (map f) (take_more xs i d h) ∙ map-append f (take i xs) (get_or xs i d ∷ []))
     ∙ (all_more 0 (map f (take i xs)) (f (get_or xs i d)) ∙ ap (λ m. all_numbered 0 (map f (take i xs)) ++ numbered_from m 0 (f (get_or xs i d))) (omega (arith, long)))
 
-none_first : (o : Option SizeFault) → o ≡ None → first_fault o None ≡ None
+none_first : (o : Option (ExpandFault Id)) → o ≡ None → first_fault o None ≡ None
 none_first None h = refl
 none_first (Some f) h = h
 
 -- the first fault of a list of rules, or of one of entries
-pub record AreFirst {X : Type 0} (fault : X → Option SizeFault) (first : List X → Option SizeFault) : Type 0 where
+pub record AreFirst {X : Type 0} (fault : X → Option (ExpandFault Id)) (first : List X → Option (ExpandFault Id)) : Type 0 where
   pub none : first [] ≡ None
   pub more : (x : X) (xs : List X) → first (x ∷ xs) ≡ first_fault (fault x) (first xs)
 
-module _ {X : Type 0} {fault : X → Option SizeFault} {all : List X → Option SizeFault} (are : AreFirst fault all) where
+module _ {X : Type 0} {fault : X → Option (ExpandFault Id)} {all : List X → Option (ExpandFault Id)} (are : AreFirst fault all) where
   fault_more : (xs ys : List X) → all xs ≡ None → all (xs ++ ys) ≡ all ys
   fault_more [] ys h = refl
   fault_more (x ∷ xs) ys h = are.more x (xs ++ ys) ∙ go (fault x) (λ k. fault_more xs ys k) (sym (are.more x xs) ∙ h)
     where
-      go : (o : Option SizeFault) → (all xs ≡ None → all (xs ++ ys) ≡ all ys) → first_fault o (all xs) ≡ None → first_fault o (all (xs ++ ys)) ≡ all ys
+      go : (o : Option (ExpandFault Id)) → (all xs ≡ None → all (xs ++ ys) ≡ all ys) → first_fault o (all xs) ≡ None → first_fault o (all (xs ++ ys)) ≡ all ys
       go None rest k = rest k
       go (Some f) rest k = cc
 
@@ -217,8 +217,8 @@ module _ {X : Type 0} {fault : X → Option SizeFault} {all : List X → Option 
 pub rules_first : AreFirst (λ r. rule_fault (rule_seen r)) (λ rs. rules_fault (map rule_seen rs))
 rules_first = record { none = refl; more = λ r rs. refl }
 
-pub entries_first : AreFirst (λ e. entry_fault (entry_seen e)) (λ es. entries_fault (map entry_seen es))
-entries_first = record { none = refl; more = λ e es. refl }
+pub entries_first : (ms : List (Meaning Id)) → AreFirst (λ e. fault_of_features ms e.line e.features.items) (λ es. entries_fault same ms (map entry_seen es))
+entries_first ms = record { none = refl; more = λ e es. refl }
 
 -- ---- entries
 
@@ -306,18 +306,16 @@ variant_more f n xs k x h =
     ∙ (ap (numbered_from n 0) (map-append f (take k xs) (y ∷ []))
     ∙ (numbered_append n 0 (map f (take k xs)) (f y) ∙ ap (λ j. numbered_from n 0 (map f (take k xs)) ++ (n, j, f y) ∷ []) (let e : 0 + length (map f (take k xs)) ≡ k = omega (arith, long) in e)))
 
-pub variants_are : (e : Entry) (fs : List Element) (vs : List (Vec Equation Global)) → fs ≡ e.features.items → lists_at vs ≡ variants (feature_variants number) (features_seen fs) → all_variants_of e vs ≡ entry_variants_of e
-variants_are e fs vs body is = go vs ∙ ap (map (entry_variant_of number keys (entry_seen e))) (is ∙ ap (λ l. variants (feature_variants number) (features_seen l)) body)
+pub variants_are : (ms : List (Meaning Id)) (e : Entry) (fs : List Element) (vs : List (Vec Equation Global)) → fs ≡ e.features.items → lists_at vs ≡ feature_variants ms fs → all_variants_of e vs ≡ entry_variants_of ms e
+variants_are ms e fs vs body is = go vs ∙ ap (map (entry_variant_of number keys (entry_seen e))) (is ∙ ap (feature_variants ms) body)
   where
     go : (us : List (Vec Equation Global)) → all_variants_of e us ≡ map (entry_variant_of number keys (entry_seen e)) (lists_at us)
     go [] = refl
     go (u ∷ us) = ap (λ l. variant_of e u.items ∷ l) (go us)
 
-pub all_alone : (e : Entry) (vs : List (Vec Equation Global)) → all_variants_of e vs ≡ entry_variants_of e → AllByRecursion (StaysAlone e) vs
-all_alone e vs is =
-    let g : production.Grammar Id = record { rules = []; templates = []; lexical_rules = []; start = record { 0 = 0 }; restrictor = []; order = [] } in
-    go vs (λ k x h. (are_built number keys g (entry_seen e ∷ [])).within.entries 0 k x (ap (λ l. slice_get l k) (sym is) ∙ h))
+pub all_alone : (ms : List (Meaning Id)) (e : Entry) (vs : List (Vec Equation Global)) → all_variants_of e vs ≡ entry_variants_of ms e → AllByRecursion (StaysAlone e) vs
+all_alone ms e vs is = go vs (subst (AllByRecursion (EntryIsBuilt keys.cat)) (sym is) (entry_is_built number same keys ms (entry_seen e)))
   where
-    go : (us : List (Vec Equation Global)) → ((k : ℕ) (x : EntryVariant) → slice_get (all_variants_of e us) k ≡ Some x → AreWithin 1 x.equations) → AllByRecursion (StaysAlone e) us
-    go [] f = tt
-    go (u ∷ us) f = (f 0 (variant_of e u.items) refl, go us (λ k x h. f (suc k) x h))
+    go : (us : List (Vec Equation Global)) → AllByRecursion (EntryIsBuilt keys.cat) (all_variants_of e us) → AllByRecursion (StaysAlone e) us
+    go [] h = tt
+    go (u ∷ us) h = (h.0.1, go us h.1)

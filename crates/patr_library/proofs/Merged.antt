@@ -1,6 +1,6 @@
 -- The items of rules and of entries are exactly the variants that have a solution, and they are found by key.
 use Rattle.std.proofs.Common.{◌≡◌, inl, inr, ℕ, List, length, map, Some, slice_get, refl, ap, ◌∙◌, [], ◌∷◌, sym, subst, zero, suc, ◌+◌, ◌<◌, Bool, cond, ◌++◌, take, get_or, None, arith}
-use Rattle.patr_library.proofs.Names.{IsOwnBlock, IsValue, Same, own_nodes, own_value, maps_transitive, value_below, all_weaker, AllByRecursion, Rules, RuleVariant, Begin, rule_variant, IsSolvable, AreWithin, variant_steps, Shown, IsShown, RuleItem, IsRuleItem, AreKept, HasNoRule, HasRuleItem, Numbered, all_numbered, EntryVariant, Leaf, entry_variant, Node, IsLeastValue, some_inj, ref_of, value_of, EntryItem, Bounds, IsEntryItem, HasEntryItem, HasNoEntry, NumberedEntry, length-map, map-append, take_more, slice_get_within, and_then_some, places, build_fault, rules_fault, entries_fault, grammar_first, in_lexicon, rule_variants, entry_variants, are_built, Id, rule_seen, Entry, entry_seen, has_key, AreOfEntries, HasItems, built_rules, grammar_of, entries_of, keys, word_at, is_number, is_of_word, is_of_mother, AreRulesDealt, variants_of, AreEntriesDealt, entry_variants_of, length-take-le}
+use Rattle.patr_library.proofs.Names.{IsOwnBlock, IsValue, Same, own_nodes, own_value, maps_transitive, value_below, all_weaker, AllByRecursion, Rules, RuleVariant, Begin, rule_variant, IsSolvable, AreWithin, variant_steps, Shown, IsShown, RuleItem, IsRuleItem, AreKept, HasNoRule, HasRuleItem, Numbered, all_numbered, EntryVariant, Leaf, entry_variant, Node, IsLeastValue, some_inj, ref_of, value_of, EntryItem, Bounds, IsEntryItem, HasEntryItem, HasNoEntry, NumberedEntry, length-map, map-append, take_more, slice_get_within, and_then_some, places, rules_fault, grammar_first, grammar_fault, templates_fault, first_fault, meant, same, IsRefusedBy, ExpandCause, Fault, rule_variants, entry_variants, are_built, Id, rule_seen, Entry, entry_seen, has_key, AreOfEntries, HasItems, built_rules, grammar_of, entries_of, keys, word_at, is_number, is_of_word, is_of_mother, AreRulesDealt, variants_of, AreEntriesDealt, entry_variants_of, length-take-le}
 use Rattle.patr_model.proofs.Leaves.{leaves_are_rules}
 use Rattle.std.proofs.lemmas.Simd.{map-map}
 use Rattle.patr_grammar.specs.declared.grammar.Grammar.{Grammar}
@@ -12,6 +12,7 @@ use Rattle.patr_library.proofs.Listed.{kept_all, kept_every, all_members, every_
 use Rattle.patr_library.specs.Stored.{number}
 use Rattle.patr_library.proofs.Keeping.{kept_map, rule_still}
 use Rattle.patr_arena.specs.declared.value.Ref.TheVariants as ref
+use Rattle.patr_text.specs.declared.fault.Fault.TheVariants.{Memory, Refused}
 
 -- ---- the items of rules
 
@@ -92,16 +93,16 @@ module _ (g : Rules) (v : Shown) (s : IsShown v) (within : (e k : ℕ) (entry : 
 rules_are : (g : Grammar) (l : List Entry) → map variants_of g.rules.items ≡ (built_rules g l).rules
 rules_are g l = sym (map-map (rule_variants number keys.cat) rule_seen g.rules.items)
 
-entries_are : (g : Grammar) (l : List Entry) → map entry_variants_of l ≡ (built_rules g l).entries
-entries_are g l = sym (map-map (entry_variants number keys) entry_seen l)
+entries_are : (g : Grammar) (l : List Entry) → map (entry_variants_of (meant g.templates.items)) l ≡ (built_rules g l).entries
+entries_are g l = sym (map-map (entry_variants number same keys (meant g.templates.items)) entry_seen l)
 
 -- what was dealt with, from nothing on
 pub has_items : (g : Grammar) (l : List Entry) (u v w : Shown) (rules : List RuleItem) (entries : List EntryItem) → IsShown w
-    → AreRulesDealt u v (all_numbered 0 (map variants_of g.rules.items)) [] rules → AreEntriesDealt v w (all_numbered 0 (map entry_variants_of l)) [] entries
+    → AreRulesDealt u v (all_numbered 0 (map variants_of g.rules.items)) [] rules → AreEntriesDealt v w (all_numbered 0 (map (entry_variants_of (meant g.templates.items)) l)) [] entries
     → HasItems (built_rules g l) w rules entries
 has_items g l u v w rules entries s d e =
     let b = built_rules g l in
-    let built = are_built number keys (grammar_of g) (entries_of l) in
+    let built = are_built number same keys (grammar_of g) (entries_of l) in
     let k : AreKept (HasRuleItem w) HasNoRule (all_numbered 0 b.rules) rules =
     kept_map (HasRuleItem v) (HasRuleItem w) HasNoRule (rule_still v w e.extends) (all_numbered 0 b.rules) rules
     (subst (λ vss. AreKept (HasRuleItem v) HasNoRule (all_numbered 0 vss) rules) (rules_are g l) (d.kept [] tt)) in
@@ -122,11 +123,16 @@ entries_there g l v = all_weaker (IsEntryItem (built_rules g l) v) (λ i. i.entr
     (λ i item.
     let all = (built_rules g l).entries in
     let here = and_then_some (slice_get all i.entry) (λ vs. slice_get vs i.variant) item.variant item.is in
-    omega (arith, slice_get_within all i.entry here.0 here.1, ap length (entries_are g l), length-map l entry_variants_of))
+    omega (arith, slice_get_within all i.entry here.0 here.1, ap length (entries_are g l), length-map l (entry_variants_of (meant g.templates.items))))
 
--- no rule has a fault, so the first is that of the entries
-pub fault_is : (g : Grammar) (l : List Entry) → rules_fault (map rule_seen g.rules.items) ≡ None → build_fault (grammar_of g) (entries_of l) ≡ in_lexicon (entries_fault (map entry_seen l))
-fault_is g l h = ap (λ f. grammar_first f (in_lexicon (entries_fault (map entry_seen l)))) h
+-- without a fault of the templates the grammar's is that of its rules
+pub no_template : (g : Grammar) → templates_fault same (grammar_of g).templates ≡ None → grammar_fault same (grammar_of g) ≡ rules_fault (map rule_seen g.rules.items)
+no_template g h = ap (λ f. first_fault f (rules_fault (map rule_seen g.rules.items))) h
+
+-- the fault of the templates is the grammar's
+pub template_refused : (g : Grammar) (why : Fault ExpandCause) → IsRefusedBy (templates_fault same (grammar_of g).templates) why → IsRefusedBy (grammar_fault same (grammar_of g)) why
+template_refused g Memory h = tt
+template_refused g (Refused c) h = ap (λ f. first_fault f (rules_fault (map rule_seen g.rules.items))) h
 
 -- ---- what is found
 

@@ -9,9 +9,10 @@ pub use Rattle.patr_arena.specs.Shown.{AllHeld, IsHeld, IsShown, RefIsHeld, Show
 pub use Rattle.patr_arena.specs.declared.value.Addr.{Addr}
 pub use Rattle.patr_arena.specs.declared.value.Feature.{Feature}
 pub use Rattle.patr_arena.specs.declared.value.Ref.{Ref}
-pub use Rattle.patr_expand.specs.Seen.{AreNumbered, IsRefusedBy, cause_seen, equation_at, equations_at, lists_at, number, path_at, term_at, variant_at, variants_at}
+pub use Rattle.patr_expand.specs.Meant.{meant_by}
+pub use Rattle.patr_expand.specs.Seen.{AreNumbered, IsRefusedBy, cause_seen, equation_at, equations_at, fault_of_features, feature_variants, lists_at, meant, number, same, path_at, term_at, variant_at, variants_at}
 pub use Rattle.patr_expand.specs.declared.cause.ExpandCause.{ExpandCause}
-pub use Rattle.patr_grammar.specs.Reading.{features_seen, rule_seen}
+pub use Rattle.patr_grammar.specs.Reading.{features_seen, rule_seen, template_seen}
 pub use Rattle.patr_lexicon.specs.Seen.{entry_seen}
 pub use Rattle.patr_lexicon.specs.declared.lexicon.Entry.{Entry}
 pub use Rattle.patr_library.specs.Built.{AreDealt, AreKept, AreRulesDealt, HasBlock, HasNoRule, HasRuleItem, IsDealt, IsRuleDealt, Numbered, StaysWithin, all_numbered, numbered, numbered_from, variants_of}
@@ -29,9 +30,9 @@ pub use Rattle.patr_lists.proofs.Places.{get_cases, get_last, get_left, get_part
 pub use Rattle.patr_lists.specs.Numbers.{places, total}
 pub use Rattle.patr_marks.specs.Machine.{Has, own}
 pub use Rattle.patr_model.proofs.Maps.{and_then_some, below_more_places, carries_arc, maps_reflexive, maps_transitive, some_inj}
-pub use Rattle.patr_model.proofs.StatedCategories.{are_built, within_append}
+pub use Rattle.patr_model.proofs.StatedCategories.{EntryIsBuilt, are_built, entry_is_built, within_append}
 pub use Rattle.patr_model.proofs.Variants.{rule_carried, variant_steps}
-pub use Rattle.patr_model.specs.Build.{SizeFault, build_fault, entries_fault, entry_fault, entry_variant_of, entry_variants, feature_variants, first_fault, grammar_first, in_lexicon, rule_fault, rule_variants, rules_fault}
+pub use Rattle.patr_model.specs.Build.{ExpandFault, Meaning, build_fault, entries_fault, entry_variant_of, entry_variants, first_fault, grammar_fault, grammar_first, meanings, rule_fault, rule_variants, rules_fault, templates_fault}
 pub use Rattle.patr_model.specs.Derivation.{Begin, EntryVariant, Leaf, RuleVariant, Rules, entry_variant, rule_variant}
 pub use Rattle.patr_model.specs.Equation.{AtomOf, Equation, Holds, PathOf}
 pub use Rattle.patr_model.specs.EquationStructures.{Pointed, atom_at_path, below_arc, forked, led, one_place, to_value, topped}

@@ -8,14 +8,15 @@ use Rattle.std.specs.List.{sum_by}
 use Rattle.patr_model.specs.Structure.{Node, arc}
 use Rattle.patr_model.specs.Derivation.{EntryVariant}
 use Rattle.patr_model.specs.Variants.{AreWithin}
-use Rattle.patr_model.specs.Build.{entry_variant_of, entry_variants}
+use Rattle.patr_model.specs.Build.{Meaning, entry_variant_of, entry_variants}
 use Rattle.patr_lexicon.specs.declared.lexicon.Entry.{Entry}
 use Rattle.patr_lexicon.specs.Seen.{entry_seen}
 use Rattle.patr_arena.specs.declared.value.Ref.{Ref}
 use Rattle.patr_arena.specs.declared.value.Feature.{Feature}
 use Rattle.patr_arena.specs.Shown.{Shown, ValueIsHeld, ref_of, value_of}
 use Rattle.patr_expand.specs.declared.equation.Equation.{Equation}
-use Rattle.patr_expand.specs.Seen.{equations_at, number}
+use Rattle.patr_text.specs.declared.symbols.Id.{Id}
+use Rattle.patr_expand.specs.Seen.{equations_at, number, same}
 use Rattle.patr_library.specs.declared.item.EntryItem.{EntryItem}
 use Rattle.patr_library.specs.Own.{IsOwn, own_nodes, own_value}
 use Rattle.patr_library.specs.Solved.{HasNone, IsLeastAt}
@@ -75,6 +76,6 @@ all_variants_of e vs = map (λ es. variant_of e es.items) vs
 abbrev pub StaysAlone : Entry → Vec Equation Global → Type 0
 StaysAlone e es = AreWithin 1 (variant_of e es.items).equations
 
--- the variants of an entry of the code
-abbrev pub entry_variants_of : Entry → List EntryVariant
-entry_variants_of e = entry_variants number keys (entry_seen e)
+-- the variants of an entry of the code, whose names stand for this
+abbrev pub entry_variants_of : List (Meaning Id) → Entry → List EntryVariant
+entry_variants_of ms e = entry_variants number same keys ms (entry_seen e)

@@ -20,6 +20,7 @@ use Rattle.patr_grammar.specs.Reading.{grammar_seen}
 use Rattle.patr_lexicon.specs.declared.lexicon.Entry.{Entry}
 use Rattle.patr_lexicon.specs.Seen.{entry_seen}
 use Rattle.patr_expand.specs.Seen.{cause_seen}
+pub use Rattle.patr_expand.specs.Seen.{meant, same}
 use Rattle.patr_library.specs.declared.item.RuleItem.{RuleItem}
 use Rattle.patr_library.specs.declared.item.EntryItem.{EntryItem}
 use Rattle.patr_library.specs.declared.item.BuildFault.{BuildFault}
@@ -53,7 +54,7 @@ entries_of l = map entry_seen l
 
 -- the variants of a grammar and a lexicon
 abbrev pub built_rules : Grammar → List Entry → Rules
-built_rules g l = build number keys (grammar_of g) (entries_of l)
+built_rules g l = build number same keys (grammar_of g) (entries_of l)
 
 -- the variants of a library's grammar and lexicon
 abbrev pub rules_of : Stored → Rules
@@ -139,10 +140,10 @@ is_of_mother m i = nat_eq i.mother.0 m
 pub record IsBuiltFrom (g : Grammar) (l : List Entry) (s : Stored) : Type 0 where
   pub grammar : s.grammar ≡ g
   pub lexicon : s.lexicon ≡ l
-  pub faultless : build_fault (grammar_of g) (entries_of l) ≡ None
+  pub faultless : build_fault same (grammar_of g) (entries_of l) ≡ None
 
 -- the grammar or the lexicon is refused for this reason, which is the first; want of memory may come at any time
 abbrev pub IsRefusedFor : Grammar → List Entry → BuildFault → Type 0
 IsRefusedFor g l fault.Memory = Unit {0}
-IsRefusedFor g l (fault.InGrammar c) = build_fault (grammar_of g) (entries_of l) ≡ Some (model.InGrammar (cause_seen c))
-IsRefusedFor g l (fault.InLexicon c) = build_fault (grammar_of g) (entries_of l) ≡ Some (model.InLexicon (cause_seen c))
+IsRefusedFor g l (fault.InGrammar c) = build_fault same (grammar_of g) (entries_of l) ≡ Some (model.InGrammar (cause_seen c))
+IsRefusedFor g l (fault.InLexicon c) = build_fault same (grammar_of g) (entries_of l) ≡ Some (model.InLexicon (cause_seen c))

@@ -2,11 +2,12 @@
 ghost use Rattle.std.specs.Prelude.{◌≡◌, ◌<◌, ◌≤◌, ◌^◌, ◌++◌, ◌∷◌, [], None, Some, IfErr, IfOk, length, map};
 ghost use Rattle.std.specs.List.{AllByRecursion};
 ghost use Rattle.patr_model.specs.Structure.{Node, arc};
-ghost use Rattle.patr_model.specs.Build.{entries_fault, entry_fault};
+ghost use Rattle.patr_model.specs.Build.{entries_fault};
 ghost use Rattle.patr_model.specs.Variants.{AreWithin};
 ghost use Rattle.patr_lexicon.specs.Seen.{entry_seen};
 ghost use Rattle.patr_arena.specs.Arenas.{shown_of};
-ghost use Rattle.patr_expand.specs.Seen.{IsRefusedBy, lists_at};
+ghost use Rattle.patr_expand.specs.Meant.{meant_by};
+ghost use Rattle.patr_expand.specs.Seen.{IsRefusedBy, fault_of_features, same};
 ghost use Rattle.patr_library.specs.Own.{IsOwn, IsOwnBlock, own_nodes, own_value};
 ghost use Rattle.patr_library.specs.Solved.{HasSlot};
 ghost use Rattle.patr_library.specs.Built.{all_numbered, numbered_from};
@@ -16,8 +17,7 @@ use crate::building::store;
 use crate::item::EntryItem;
 use crate::solving::{Facts, Start, solved};
 use patr_arena::{Block, Memory, Nodes, PlainArena, Ref};
-use patr_expand::{Equation, ExpandCause, expand_features};
-use patr_grammar::Grammar;
+use patr_expand::{Equation, ExpandCause, Templates};
 use patr_lexicon::Entry;
 use patr_scratch::Scratch;
 use patr_text::Fault;
@@ -94,21 +94,21 @@ fn keep_variants(
     Ok(())
 }
 
-/// Keeps the items of one entry.
+/// Keeps the items of one entry, whose names are those of templates.
 fn keep_one(
     alloc: Global,
-    grammar: &Grammar,
+    templates: &Templates<'_>,
     entry: &Entry,
     number: u32,
     arena: &mut PlainArena,
     items: &mut Vec<EntryItem>,
     scratch: &mut Scratch,
 ) -> Result<(), Fault<ExpandCause>>
-    ensures dealt { IfOk result (λ _. AreEntriesDealt (shown_of arena.old) (shown_of arena.new) (numbered_from number 0 (entry_variants_of entry.now)) items.old.items items.new.items) }
-    ensures faultless { IfOk result (λ _. entry_fault (entry_seen entry.now) ≡ None) }
-    ensures refused { IfErr result (λ fault. IsRefusedBy (entry_fault (entry_seen entry.now)) fault) }
+    ensures dealt { IfOk result (λ _. AreEntriesDealt (shown_of arena.old) (shown_of arena.new) (numbered_from number 0 (entry_variants_of (meant_by templates.now) entry.now)) items.old.items items.new.items) }
+    ensures faultless { IfOk result (λ _. fault_of_features (meant_by templates.now) entry.now.line entry.now.features.items ≡ None) }
+    ensures refused { IfErr result (λ fault. IsRefusedBy (fault_of_features (meant_by templates.now) entry.now.line entry.now.features.items) fault) }
 {
-    let variants = expand_features(alloc, grammar, &entry.features, entry.line)?;
+    let variants = templates.expand(alloc, &entry.features, entry.line)?;
     keep_variants(alloc, entry, number, &variants, arena, items, scratch)?;
     Ok(())
 }
@@ -116,19 +116,27 @@ fn keep_one(
 /// Keeps the items of all entries.
 pub(crate) fn keep_entries(
     alloc: Global,
-    grammar: &Grammar,
+    templates: &Templates<'_>,
     entries: &[Entry],
     arena: &mut PlainArena,
     items: &mut Vec<EntryItem>,
     scratch: &mut Scratch,
 ) -> Result<(), Fault<ExpandCause>>
     requires { length entries.now < 2 ^ 32 }
-    ensures dealt { IfOk result (λ _. AreEntriesDealt (shown_of arena.old) (shown_of arena.new) (all_numbered 0 (map entry_variants_of entries.now)) items.old.items items.new.items) }
-    ensures faultless { IfOk result (λ _. entries_fault (map entry_seen entries.now) ≡ None) }
-    ensures refused { IfErr result (λ fault. IsRefusedBy (entries_fault (map entry_seen entries.now)) fault) }
+    ensures dealt { IfOk result (λ _. AreEntriesDealt (shown_of arena.old) (shown_of arena.new) (all_numbered 0 (map (entry_variants_of (meant_by templates.now)) entries.now)) items.old.items items.new.items) }
+    ensures faultless { IfOk result (λ _. entries_fault same (meant_by templates.now) (map entry_seen entries.now) ≡ None) }
+    ensures refused { IfErr result (λ fault. IsRefusedBy (entries_fault same (meant_by templates.now) (map entry_seen entries.now)) fault) }
 {
     for (number, entry) in entries.iter().enumerate() {
-        keep_one(alloc, grammar, entry, number as u32, arena, items, scratch)?;
+        keep_one(
+            alloc,
+            templates,
+            entry,
+            number as u32,
+            arena,
+            items,
+            scratch,
+        )?;
     }
     Ok(())
 }

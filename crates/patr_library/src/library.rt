@@ -30,6 +30,11 @@ pub struct Library {
 
 impl Model for Library {
     ghost use Rattle.patr_library.specs.Stored.{Stored};
+    ghost use Rattle.std.specs.Coded.{codes};
+    ghost use Rattle.patr_grammar.specs.contracts.grammar.Item as item;
+    ghost use Rattle.patr_grammar.specs.contracts.grammar.Element as element;
+
+    ghost coded = { Prim.hlevel (codes, item.the_row.coded, element.the_row.coded) };
 
     ghost Value = { Stored };
 

@@ -1,12 +1,10 @@
 //! The items of all rules and then of all entries in one arena, and the keys by which they are found.
 ghost use Rattle.std.specs.Prelude.{◌≡◌, ◌<◌, ◌^◌, ℕ, List, None, Some, IfErr, IfOk, length, map};
-ghost use Rattle.patr_model.specs.Build.{build_fault, entries_fault, rules_fault};
-ghost use Rattle.patr_grammar.specs.Reading.{rule_seen};
+ghost use Rattle.patr_model.specs.Build.{build_fault, entries_fault, grammar_fault, meanings};
 ghost use Rattle.patr_grammar.specs.declared.grammar.Grammar as its;
 ghost use Rattle.patr_lexicon.specs.declared.lexicon.Entry as an;
-ghost use Rattle.patr_lexicon.specs.Seen.{entry_seen};
 ghost use Rattle.patr_arena.specs.Arenas.{shown_of};
-ghost use Rattle.patr_expand.specs.Seen.{IsRefusedBy};
+ghost use Rattle.patr_expand.specs.Seen.{IsRefusedBy, same};
 ghost use Rattle.patr_library.specs.Stored.{AreOfEntries, HasItems, IsRefusedFor, built_rules, entries_of, grammar_of, word_at};
 
 use crate::Memory;
@@ -14,7 +12,7 @@ use crate::building::keep_rules;
 use crate::entries::keep_entries;
 use crate::item::{BuildFault, EntryItem, RuleItem};
 use patr_arena::{Nodes, PlainArena};
-use patr_expand::ExpandCause;
+use patr_expand::{ExpandCause, Templates};
 use patr_grammar::Grammar;
 use patr_lexicon::Entry;
 use patr_scratch::Scratch;
@@ -29,9 +27,9 @@ pub(crate) struct Items {
     pub(crate) entries: Vec<EntryItem>,
 }
 
-/// A rule is refused.
+/// A template or a rule is refused.
 fn in_grammar(fault: Fault<ExpandCause>) -> BuildFault
-    ensures { (g : its.Grammar) (l : List an.Entry) → IsRefusedBy (rules_fault (map rule_seen g.rules.items)) fault → IsRefusedFor g l result }
+    ensures { (g : its.Grammar) (l : List an.Entry) → IsRefusedBy (grammar_fault same (grammar_of g)) fault → IsRefusedFor g l result }
 {
     match fault {
         Fault::Memory => BuildFault::Memory,
@@ -39,9 +37,9 @@ fn in_grammar(fault: Fault<ExpandCause>) -> BuildFault
     }
 }
 
-/// An entry is refused, and no rule.
+/// An entry is refused, and nothing of the grammar.
 fn in_lexicon(fault: Fault<ExpandCause>) -> BuildFault
-    ensures { (g : its.Grammar) (l : List an.Entry) → rules_fault (map rule_seen g.rules.items) ≡ None → IsRefusedBy (entries_fault (map entry_seen l)) fault → IsRefusedFor g l result }
+    ensures { (g : its.Grammar) (l : List an.Entry) → grammar_fault same (grammar_of g) ≡ None → IsRefusedBy (entries_fault same (meanings same (grammar_of g).templates) (entries_of l)) fault → IsRefusedFor g l result }
 {
     match fault {
         Fault::Memory => BuildFault::Memory,
@@ -57,7 +55,7 @@ pub(crate) fn all_items(
 ) -> Result<Items, BuildFault>
     requires { length lexicon.now < 2 ^ 32 }
     ensures items { IfOk result (λ made. HasItems (built_rules grammar.now lexicon.now) (shown_of made.arena) made.rules.items made.entries.items) }
-    ensures faultless { IfOk result (λ _. build_fault (grammar_of grammar.now) (entries_of lexicon.now) ≡ None) }
+    ensures faultless { IfOk result (λ _. build_fault same (grammar_of grammar.now) (entries_of lexicon.now) ≡ None) }
     ensures refused { IfErr result (λ fault. IsRefusedFor grammar.now lexicon.now fault) }
     ensures few { IfOk result (λ made. (length made.rules.items < 2 ^ 32) × (length made.entries.items < 2 ^ 32)) }
 {
@@ -65,12 +63,16 @@ pub(crate) fn all_items(
     let mut arena = PlainArena::new(alloc);
     let mut rules = Vec::new(alloc);
     let mut entries = Vec::new(alloc);
+    let templates = match Templates::new(alloc, grammar) {
+        Ok(templates) => templates,
+        Err(fault) => return Err(in_grammar(fault)),
+    };
     if let Err(fault) = keep_rules(alloc, grammar, &mut arena, &mut rules, &mut scratch) {
         return Err(in_grammar(fault));
     }
     if let Err(fault) = keep_entries(
         alloc,
-        grammar,
+        &templates,
         lexicon,
         &mut arena,
         &mut entries,

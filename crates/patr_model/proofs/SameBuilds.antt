@@ -1,17 +1,20 @@
 -- What a build makes depends neither on what stands for the words nor on how they are numbered.
-use Rattle.std.proofs.Common.{◌≡◌, ℕ, suc, ◌+◌, ◌*◌, List, [], ◌∷◌, ◌++◌, map, filter_map, max, length, nat_eq, cond, codes, Option, Some, None, option_map, option_and_then, refl, sym, ap, subst}
+use Rattle.std.proofs.Common.{◌≡◌, ℕ, suc, ◌+◌, ◌*◌, ◌^◌, List, [], ◌∷◌, ◌++◌, map, filter_map, max, min, length, Bool, true, false, nat_eq, nat_lt, cond, codes, Option, Some, None, option_map, option_and_then, refl, sym, ap, subst}
 use Rattle.patr_model.proofs.Agreeing.{each_itself}
 use Rattle.patr_model.specs.Equation.{AtomOf, PathOf}
 use Rattle.patr_model.specs.Grammar.{Row, Rows, Done, One, OneOf, Optional, None', Or, products, variants, variants_of, single}
 use Rattle.patr_model.specs.Plain.{stated}
 use Rattle.patr_model.specs.Session.{Numbering}
-use Rattle.patr_model.specs.Productions.{SymbolText, PathText, TermText, AtomText, OfPath, EquationText, FeatureText, Equates, Names, RuleText, Grammar}
+use Rattle.patr_model.specs.Productions.{SymbolText, PathText, TermText, AtomText, OfPath, EquationText, RuleText, Grammar, things}
 use Rattle.patr_model.specs.LexiconText.{EntryOf}
 use Rattle.patr_model.specs.Renaming.{Each, Both, SameRow, SameRows', AreOne, SamePath, SameTerm, SameEquation, SameRule, SameEntry, SameGrounds}
-use Rattle.patr_model.specs.Agreeing.{SameSymbolText, SamePathText, SameTermText, SameEquationText, SameFeatureText, SameRuleText, SameGrammar, SameEntryText}
-use Rattle.patr_model.specs.Build.{longest, longest_of, Keys, slot_of, head_slot, placed_path, placed_term, placed_equation, category_equations, rule_variant_of, rule_variants, feature_path, feature_term, feature_variants, gloss_fact, facts_of, entry_variant_of, entry_variants, build, keys_of, grounds, size_fault, first_fault, rule_fault, entry_fault, rules_fault, entries_fault, in_lexicon, grammar_first, build_fault}
+use Rattle.patr_model.specs.Agreeing.{SameSymbolText, SamePathText, SameTermText, SameEquationText, SameFeatureText, SameRuleText, SameGrammar, SameEntryText, SameMeaning, SameExpandFault, SameBuildFault}
+use Rattle.patr_model.specs.Bytes.{same_text}
+use Rattle.patr_model.specs.Build.{Meaning, written_out, meanings, longest, longest_of, Keys, slot_of, head_slot, placed_path, placed_term, placed_equation, category_equations, rule_variant_of, rule_variants, feature_path, feature_term, feature_equation, equation_variants, gloss_fact, facts_of, entry_variant_of, entry_variants, build, keys_of, grounds, ExpandFault, TooManyVariants, TooManyEquations, size_fault, equations_fault, rule_fault, rules_fault, features_fault, templates_fault, entries_fault, unknown_name, grammar_fault, grammar_first, build_fault}
 use Rattle.patr_model.proofs.Renaming.{each_length}
 use Rattle.patr_model.proofs.RenamedVariants.{all_same, alone_same, each_append, each_map, each_flat, each_filter, variants_same}
+use Rattle.patr_model.proofs.SameParses.{things_agree}
+use Rattle.patr_model.proofs.SameMeanings.{written_same, meanings_same, first_same, unknown_same, templates_same}
 
 -- members that are equal one by one
 each_equal : {X : Type 0} (xs ys : List X) → Each (λ x y. x ≡ y) xs ys → xs ≡ ys
@@ -119,22 +122,20 @@ module _ {W V : Type 0} (S : W → V → Type 0) (number : W → ℕ) (other : V
   feature_term_equal (AtomText a) (OfPath q) e = absurd e
   feature_term_equal (OfPath p) (AtomText b) e = absurd e
 
-  feature_equal : (t : FeatureText W) (u : FeatureText V) → SameFeatureText S t u → feature_variants number t ≡ feature_variants other u
-  feature_equal (Equates e) (Equates f) s =
-      λ i. ((record { left = feature_path_equal e.left f.left s.left i; right = feature_term_equal e.right f.right s.right i }) ∷ []) ∷ []
-  feature_equal (Names a p) (Names b q) s = refl
-  feature_equal (Equates e) (Names b q) s = absurd s
-  feature_equal (Names a p) (Equates f) s = absurd s
+  equations_equal : (r : Row (EquationText W)) (s : Row (EquationText V)) → SameRow (SameEquationText S) r s → equation_variants number r ≡ equation_variants other s
+  equations_equal = variants_equal (SameEquationText S) (λ e. single (feature_equation number e)) (λ e. single (feature_equation other e))
+      (λ e f s i. ((record { left = feature_path_equal e.left f.left s.left i; right = feature_term_equal e.right f.right s.right i }) ∷ []) ∷ [])
 
-  module _ (keys : Keys) where
+  module _ (eq : W → W → Bool) (others : V → V → Bool) (alike : (a b : W) (c d : V) → S a c → S b d → eq a b ≡ others c d) (keys : Keys) where
     gloss_equal : (o : Option W) (p : Option V) → Both S o p → gloss_fact number keys o ≡ gloss_fact other keys p
     gloss_equal None None b = refl
     gloss_equal (Some u) (Some v) b = λ i. (keys.gloss, same u v b i) ∷ []
     gloss_equal _ _ b = absurd b
 
-    entry_equal : (e : EntryOf W) (f : EntryOf V) → SameEntryText S e f → entry_variants number keys e ≡ entry_variants other keys f
-    entry_equal e f k =
-        let all = variants_equal (SameFeatureText S) (feature_variants number) (feature_variants other) feature_equal e.features f.features k.features in
+    entry_equal : (ms : List (Meaning W)) (ns : List (Meaning V)) → Each (SameMeaning S) ms ns → (e : EntryOf W) (f : EntryOf V) → SameEntryText S e f
+        → entry_variants number eq keys ms e ≡ entry_variants other others keys ns f
+    entry_equal ms ns h e f k =
+        let all = equations_equal (written_out eq ms e.features) (written_out others ns f.features) (written_same S eq others alike ms ns h e.features f.features k.features) in
         λ i. map (λ es. record {
           word = same e.word f.word k.word i;
           category = same e.category f.category k.category i;
@@ -142,47 +143,79 @@ module _ {W V : Type 0} (S : W → V → Type 0) (number : W → ℕ) (other : V
           chain = [];
         }) (all i)
 
-    pub same_build : (g : Grammar W) (h : Grammar V) (l : List (EntryOf W)) (k : List (EntryOf V)) → SameGrammar S g h → Each (SameEntryText S) l k → build number keys g l ≡ build other keys h k
+    pub same_build : (g : Grammar W) (h : Grammar V) (l : List (EntryOf W)) (k : List (EntryOf V)) → SameGrammar S g h → Each (SameEntryText S) l k → build number eq keys g l ≡ build other others keys h k
     same_build g h l k e f =
         let rules = maps_equal (SameRuleText S) (rule_variants number keys.cat) (rule_variants other keys.cat) (rule_equal keys.cat) g.rules h.rules e.rules in
-        let entries = maps_equal (SameEntryText S) (entry_variants number keys) (entry_variants other keys) entry_equal l k f in
+        let stand = meanings_same S eq others alike g.templates h.templates e.templates in
+        let entries = maps_equal (SameEntryText S) (entry_variants number eq keys (meanings eq g.templates)) (entry_variants other others keys (meanings others h.templates))
+        (entry_equal (meanings eq g.templates) (meanings others h.templates) stand) l k f in
         let restrictor = maps_equal (Each S) (map number) (map other) words_equal g.restrictor h.restrictor e.restrictor in
         λ i. record { rules = rules i; entries = entries i; start = same g.start h.start e.start i; restrictor = restrictor i }
 
--- ---- what is too large
+-- ---- what is refused
 
 module _ {W V : Type 0} (S : W → V → Type 0) where
   blank : {A B : Type 0} (R : A → B → Type 0) (r : Row A) (s : Row B) → SameRow R r s → length (variants single r) ≡ length (variants single s)
   blank R r s k = each_length (Each R) (variants single r) (variants single s) (alone_same R r s k)
 
-  rule_fault_equal : (r : RuleText W) (s : RuleText V) → SameRuleText S r s → rule_fault r ≡ rule_fault s
-  rule_fault_equal r s k =
+  most : {A B : Type 0} (R : A → B → Type 0) (r : Row A) (s : Row B) → SameRow R r s → longest (λ e. 1) r ≡ longest (λ e. 1) s
+  most R r s k = longest_equal R (λ e. 1) (λ e. 1) (λ a b q. refl) r s k
+
+  size_same : (line line' count count' most most' : ℕ) → line ≡ line' → count ≡ count' → most ≡ most' → Both (SameExpandFault S) (size_fault line count most) (size_fault line' count' most')
+  size_same line line' count count' most most' e f h =
+      subst (λ n. Both (SameExpandFault S) (size_fault line count most) (size_fault n count' most')) e
+      (subst (λ n. Both (SameExpandFault S) (size_fault line count most) (size_fault line n most')) f
+      (subst (λ n. Both (SameExpandFault S) (size_fault line count most) (size_fault line count n)) h (itself (nat_lt 256 count) (nat_lt 1024 most))))
+    where
+      itself : (b c : Bool) → Both (SameExpandFault S) (cond b (Some (TooManyVariants line (min count (2 ^ 32)))) (cond c (Some (TooManyEquations line (min most (2 ^ 32)))) None))
+          (cond b (Some (TooManyVariants line (min count (2 ^ 32)))) (cond c (Some (TooManyEquations line (min most (2 ^ 32)))) None))
+      itself true c = (refl, refl)
+      itself false true = (refl, refl)
+      itself false false = tt
+
+  rule_fault_same : (r : RuleText W) (s : RuleText V) → SameRuleText S r s → Both (SameExpandFault S) (rule_fault r) (rule_fault s)
+  rule_fault_same r s k =
       let right = blank (SameSymbolText S) r.right s.right k.right in
       let equations = blank (SameEquationText S) r.equations s.equations k.equations in
-      let most = longest_equal (SameEquationText S) (λ e. 1) (λ e. 1) (λ a b q. refl) r.equations s.equations k.equations in
-      λ i. size_fault (k.line i) (right i * equations i) (most i)
+      size_same r.line s.line (length (variants single r.right) * length (variants single r.equations)) (length (variants single s.right) * length (variants single s.equations))
+      (longest (λ e. 1) r.equations) (longest (λ e. 1) s.equations) k.line (λ i. right i * equations i) (most (SameEquationText S) r.equations s.equations k.equations)
 
-  entry_fault_equal : (e : EntryOf W) (f : EntryOf V) → SameEntryText S e f → entry_fault e ≡ entry_fault f
-  entry_fault_equal e f k =
-      let features = blank (SameFeatureText S) e.features f.features k.features in
-      let most = longest_equal (SameFeatureText S) (λ e. 1) (λ e. 1) (λ a b q. refl) e.features f.features k.features in
-      λ i. size_fault (k.line i) (features i) (most i)
+  rules_fault_same : (rs : List (RuleText W)) (ss : List (RuleText V)) → Each (SameRuleText S) rs ss → Both (SameExpandFault S) (rules_fault rs) (rules_fault ss)
+  rules_fault_same [] [] k = tt
+  rules_fault_same (r ∷ rs) (s ∷ ss) k = first_same S (rule_fault r) (rules_fault rs) (rule_fault s) (rules_fault ss) (rule_fault_same r s k.0) (rules_fault_same rs ss k.1)
+  rules_fault_same _ _ k = absurd k
 
-  rules_fault_equal : (rs : List (RuleText W)) (ss : List (RuleText V)) → Each (SameRuleText S) rs ss → rules_fault rs ≡ rules_fault ss
-  rules_fault_equal [] [] k = refl
-  rules_fault_equal (r ∷ rs) (s ∷ ss) k = λ i. first_fault (rule_fault_equal r s k.0 i) (rules_fault_equal rs ss k.1 i)
-  rules_fault_equal _ _ k = absurd k
+  grammar_first_same : (o p : Option (ExpandFault W)) (u t : Option (ExpandFault V)) → Both (SameExpandFault S) o u → Both (SameExpandFault S) p t
+      → Both (SameBuildFault S) (grammar_first o p) (grammar_first u t)
+  grammar_first_same (Some e) p (Some f) t h k = h
+  grammar_first_same None (Some e) None (Some f) h k = k
+  grammar_first_same None None None None h k = tt
+  grammar_first_same None (Some e) None None h k = absurd k
+  grammar_first_same None None None (Some f) h k = absurd k
+  grammar_first_same _ p _ t h k = absurd h
 
-  entries_fault_equal : (l : List (EntryOf W)) (k : List (EntryOf V)) → Each (SameEntryText S) l k → entries_fault l ≡ entries_fault k
-  entries_fault_equal [] [] q = refl
-  entries_fault_equal (e ∷ l) (f ∷ k) q = λ i. first_fault (entry_fault_equal e f q.0 i) (entries_fault_equal l k q.1 i)
-  entries_fault_equal _ _ q = absurd q
+  module _ (eq : W → W → Bool) (others : V → V → Bool) (alike : (a b : W) (c d : V) → S a c → S b d → eq a b ≡ others c d) where
+    entries_fault_same : (ms : List (Meaning W)) (ns : List (Meaning V)) → Each (SameMeaning S) ms ns → (l : List (EntryOf W)) (k : List (EntryOf V)) → Each (SameEntryText S) l k
+        → Both (SameExpandFault S) (entries_fault eq ms l) (entries_fault others ns k)
+    entries_fault_same ms ns h [] [] q = tt
+    entries_fault_same ms ns h (e ∷ l) (f ∷ k) q =
+        let written = written_same S eq others alike ms ns h e.features f.features q.0.features in
+        let sized = size_same e.line f.line (length (variants single (written_out eq ms e.features))) (length (variants single (written_out others ns f.features)))
+        (longest (λ e. 1) (written_out eq ms e.features)) (longest (λ e. 1) (written_out others ns f.features)) q.0.line
+        (blank (SameEquationText S) (written_out eq ms e.features) (written_out others ns f.features) written) (most (SameEquationText S) (written_out eq ms e.features) (written_out others ns f.features) written) in
+        let unknown = unknown_same S eq others alike ms ns h (things e.features) (things f.features) (things_agree (SameFeatureText S) e.features f.features q.0.features) in
+        first_same S (features_fault eq ms e.line e.features) (entries_fault eq ms l) (features_fault others ns f.line f.features) (entries_fault others ns k)
+        (first_same S (unknown_name eq ms (things e.features)) (equations_fault e.line (written_out eq ms e.features)) (unknown_name others ns (things f.features)) (equations_fault f.line (written_out others ns f.features)) unknown sized)
+        (entries_fault_same ms ns h l k q.1)
+    entries_fault_same ms ns h _ _ q = absurd q
 
-  pub same_fault : (g : Grammar W) (h : Grammar V) (l : List (EntryOf W)) (k : List (EntryOf V)) → SameGrammar S g h → Each (SameEntryText S) l k → build_fault g l ≡ build_fault h k
-  same_fault g h l k e f =
-      let rules = rules_fault_equal g.rules h.rules e.rules in
-      let entries = entries_fault_equal l k f in
-      λ i. grammar_first (rules i) (in_lexicon (entries i))
+    pub fault_same : (g : Grammar W) (h : Grammar V) (l : List (EntryOf W)) (k : List (EntryOf V)) → SameGrammar S g h → Each (SameEntryText S) l k
+        → Both (SameBuildFault S) (build_fault eq g l) (build_fault others h k)
+    fault_same g h l k e f =
+        grammar_first_same (grammar_fault eq g) (entries_fault eq (meanings eq g.templates) l) (grammar_fault others h) (entries_fault others (meanings others h.templates) k)
+        (first_same S (templates_fault eq g.templates) (rules_fault g.rules) (templates_fault others h.templates) (rules_fault h.rules)
+        (templates_same S eq others alike g.templates h.templates e.templates) (rules_fault_same g.rules h.rules e.rules))
+        (entries_fault_same (meanings eq g.templates) (meanings others h.templates) (meanings_same S eq others alike g.templates h.templates e.templates) l k f)
 
 -- ---- another numbering
 
@@ -231,9 +264,13 @@ module _ (N X : Numbering) where
   feature_term_made (AtomText a) = (a, refl, refl)
   feature_term_made (OfPath p) = feature_path_made p
 
-  feature_made : (f : FeatureText (List ℕ)) → Each (Each (SameEquation N X)) (feature_variants N.number f) (feature_variants X.number f)
-  feature_made (Equates e) = ((record { left = feature_path_made e.left; right = feature_term_made e.right }, tt), tt)
-  feature_made (Names w p) = tt
+  equation_made : (e : EquationText (List ℕ)) → Each (Each (SameEquation N X)) (single (feature_equation N.number e)) (single (feature_equation X.number e))
+  equation_made e = ((record { left = feature_path_made e.left; right = feature_term_made e.right }, tt), tt)
+
+  equations_made : (r : Row (EquationText (List ℕ))) → Each (Each (SameEquation N X)) (equation_variants N.number r) (equation_variants X.number r)
+  equations_made r =
+      variants_same (λ a b. a ≡ b) (SameEquation N X) (λ e. single (feature_equation N.number e)) (λ e. single (feature_equation X.number e))
+      (λ a b q. subst (λ f. Each (Each (SameEquation N X)) (single (feature_equation N.number a)) (single (feature_equation X.number f))) q (equation_made a)) r r (row_itself (λ a b. a ≡ b) (λ a. refl) r)
 
   fact_made : (a b c d : ℕ) → AreOne N X a b → AreOne N X c d
       → SameEquation N X (record { left = record { slot = 0; path = a ∷ [] }; right = AtomOf c }) (record { left = record { slot = 0; path = b ∷ [] }; right = AtomOf d })
@@ -249,8 +286,8 @@ module _ (N X : Numbering) where
     (fact_made (N.number (codes "lex")) (X.number (codes "lex")) (N.number e.word) (X.number e.word) (codes "lex", refl, refl) (e.word, refl, refl), gloss_made e.gloss),
   )
 
-  entry_made : (e : EntryOf (List ℕ)) → Each (SameEntry N X) (entry_variants N.number (keys_of N) e) (entry_variants X.number (keys_of X) e)
-  entry_made e =
+  entry_made : (ms : List (Meaning (List ℕ))) (e : EntryOf (List ℕ)) → Each (SameEntry N X) (entry_variants N.number same_text (keys_of N) ms e) (entry_variants X.number same_text (keys_of X) ms e)
+  entry_made ms e =
       each_map (SameEntry N X) (Each (SameEquation N X)) (entry_variant_of N.number (keys_of N) e) (entry_variant_of X.number (keys_of X) e)
       (λ es fs k. record {
         word = (e.word, refl, refl);
@@ -258,16 +295,15 @@ module _ (N X : Numbering) where
         equations = each_append (SameEquation N X) (stated (facts_of N.number (keys_of N) e)) es (stated (facts_of X.number (keys_of X) e)) fs (facts_made e) k;
         chain = tt;
       })
-      (variants (feature_variants N.number) e.features) (variants (feature_variants X.number) e.features)
-      (variants_same (λ a b. a ≡ b) (SameEquation N X) (feature_variants N.number) (feature_variants X.number)
-      (λ a b q. subst (λ f. Each (Each (SameEquation N X)) (feature_variants N.number a) (feature_variants X.number f)) q (feature_made a)) e.features e.features (row_itself (λ a b. a ≡ b) (λ a. refl) e.features))
+      (equation_variants N.number (written_out same_text ms e.features)) (equation_variants X.number (written_out same_text ms e.features)) (equations_made (written_out same_text ms e.features))
 
   pub same_grounds : (g : Grammar (List ℕ)) (l : List (EntryOf (List ℕ))) → SameGrounds (grounds N g l) (grounds X g l)
   same_grounds g l =
       record {
         rules = record {
           rules = list_made (Each (SameRule N X)) (rule_variants N.number (N.number (codes "cat"))) (rule_variants X.number (X.number (codes "cat"))) rule_made g.rules;
-          entries = list_made (Each (SameEntry N X)) (entry_variants N.number (keys_of N)) (entry_variants X.number (keys_of X)) entry_made l;
+          entries = list_made (Each (SameEntry N X)) (entry_variants N.number same_text (keys_of N) (meanings same_text g.templates)) (entry_variants X.number same_text (keys_of X) (meanings same_text g.templates))
+              (entry_made (meanings same_text g.templates)) l;
           start = (g.start, refl, refl);
           restrictor = list_made (Each (AreOne N X)) (map N.number) (map X.number) words_made g.restrictor;
         };

@@ -5,12 +5,12 @@ use Rattle.std.proofs.lemmas.List.{length-map}
 use Rattle.patr_lists.proofs.Alls.{all_at, all_map, all_flat}
 use Rattle.patr_model.specs.Equation.{SlotPath, Term, AtomOf, PathOf, Equation}
 use Rattle.patr_model.specs.Derivation.{RuleVariant, EntryVariant, rule_variant, entry_variant}
-use Rattle.patr_model.specs.Grammar.{single, variants}
+use Rattle.patr_model.specs.Grammar.{Row, single, variants}
 use Rattle.patr_model.specs.Plain.{bare, stated, IsFact}
-use Rattle.patr_model.specs.Productions.{SymbolText, PathText, TermText, AtomText, OfPath, EquationText, RuleText, FeatureText, Equates, Names, Grammar}
+use Rattle.patr_model.specs.Productions.{SymbolText, PathText, TermText, AtomText, OfPath, EquationText, RuleText, Grammar}
 use Rattle.patr_model.specs.LexiconText.{EntryOf}
 use Rattle.patr_model.specs.Variants.{TermWithin, IsWithin, AreWithin}
-use Rattle.patr_model.specs.Build.{slot_of, head_slot, placed_path, placed_term, placed_equation, category_equations, rule_variant_of, rule_variants, Keys, feature_term, feature_variants, facts_of, entry_variant_of, entry_variants, build}
+use Rattle.patr_model.specs.Build.{slot_of, head_slot, placed_path, placed_term, placed_equation, category_equations, rule_variant_of, rule_variants, Keys, feature_term, feature_equation, equation_variants, facts_of, entry_variant_of, Meaning, written_out, meanings, entry_variants, build}
 use Rattle.patr_model.specs.Builds.{AreBuilt}
 use Rattle.patr_model.proofs.Maps.{some_inj, and_then_some}
 use Rattle.patr_model.proofs.Members.{at_is_member, variants_all}
@@ -128,52 +128,53 @@ pub stated_within : (fs : List (ℕ × ℕ)) → AreWithin 1 (stated fs)
 stated_within [] = tt
 stated_within (f ∷ fs) = ((omega arith, tt), stated_within fs)
 
-module _ {W : Type 0} (number : W → ℕ) (keys : Keys) where
-  feature_within : (f : FeatureText W) → AllByRecursion (AreWithin 1) (feature_variants number f)
-  feature_within (Equates e) = (((omega arith, term_in e.right), tt), tt)
+-- what is known of the variant of an entry
+abbrev pub EntryIsBuilt : ℕ → EntryVariant → Type 0
+EntryIsBuilt cat entry = ((facts : List (ℕ × ℕ)) × (more : List Equation) × (entry.equations ≡ stated facts ++ more) × IsFact facts cat entry.category) × AreWithin 1 entry.equations × (entry.chain ≡ [])
+
+module _ {W : Type 0} (number : W → ℕ) where
+  equations_within : (r : Row (EquationText W)) → AllByRecursion (AreWithin 1) (equation_variants number r)
+  equations_within = variants_all (AreWithin 1) tt (within_append 1) (λ e. single (feature_equation number e)) (λ e. (((omega arith, term_in e.right), tt), tt))
     where
       term_in : (t : TermText W) → TermWithin 1 (feature_term number t)
       term_in (AtomText a) = tt
       term_in (OfPath p) = omega arith
-  feature_within (Names w p) = tt
 
-  abbrev EntryIsBuilt : EntryVariant → Type 0
-  EntryIsBuilt entry = ((facts : List (ℕ × ℕ)) × (more : List Equation) × (entry.equations ≡ stated facts ++ more) × IsFact facts keys.cat entry.category) × AreWithin 1 entry.equations × (entry.chain ≡ [])
-
-  entry_is_built : (e : EntryOf W) → AllByRecursion EntryIsBuilt (entry_variants number keys e)
-  entry_is_built e =
-      all_map EntryIsBuilt (entry_variant_of number keys e) (AreWithin 1)
+module _ {W : Type 0} (number : W → ℕ) (same : W → W → Bool) (keys : Keys) where
+  pub entry_is_built : (ms : List (Meaning W)) (e : EntryOf W) → AllByRecursion (EntryIsBuilt keys.cat) (entry_variants number same keys ms e)
+  entry_is_built ms e =
+      all_map (EntryIsBuilt keys.cat) (entry_variant_of number keys e) (AreWithin 1)
       (λ es w. (
         (facts_of number keys e, es, refl, inl (refl, refl)),
         within_append 1 (stated (facts_of number keys e)) es (stated_within (facts_of number keys e)) w,
         refl,
       ))
-      (variants (feature_variants number) e.features) (variants_all (AreWithin 1) tt (within_append 1) (feature_variants number) feature_within e.features)
+      (equation_variants number (written_out same ms e.features)) (equations_within number (written_out same ms e.features))
 
   module _ (g : Grammar W) (l : List (EntryOf W)) where
     -- what holds of the variants of each rule holds of each variant
     pub every_rule : (P : RuleVariant → Type 0) (Q : RuleText W → Type 0) → ((r : RuleText W) → Q r → AllByRecursion P (rule_variants number keys.cat r)) → AllByRecursion Q g.rules
-        → (r k : ℕ) (rule : RuleVariant) → rule_variant (build number keys g l) r k ≡ Some rule → P rule
+        → (r k : ℕ) (rule : RuleVariant) → rule_variant (build number same keys g l) r k ≡ Some rule → P rule
     every_rule P Q made all r k rule h =
-        let rules = (build number keys g l).rules in
+        let rules = (build number same keys g l).rules in
         let vs = and_then_some (slice_get rules r) (λ vs. slice_get vs k) rule h in
         all_at P vs.0 (all_at (AllByRecursion P) rules (all_map (AllByRecursion P) (rule_variants number keys.cat) Q made g.rules all) r vs.0 vs.1) k rule vs.2
 
     -- and of entries
-    pub every_entry : (P : EntryVariant → Type 0) (Q : EntryOf W → Type 0) → ((e : EntryOf W) → Q e → AllByRecursion P (entry_variants number keys e)) → AllByRecursion Q l
-        → (e k : ℕ) (entry : EntryVariant) → entry_variant (build number keys g l) e k ≡ Some entry → P entry
+    pub every_entry : (P : EntryVariant → Type 0) (Q : EntryOf W → Type 0) → ((e : EntryOf W) → Q e → AllByRecursion P (entry_variants number same keys (meanings same g.templates) e)) → AllByRecursion Q l
+        → (e k : ℕ) (entry : EntryVariant) → entry_variant (build number same keys g l) e k ≡ Some entry → P entry
     every_entry P Q made all e k entry h =
-        let entries = (build number keys g l).entries in
+        let entries = (build number same keys g l).entries in
         let vs = and_then_some (slice_get entries e) (λ vs. slice_get vs k) entry h in
-        all_at P vs.0 (all_at (AllByRecursion P) entries (all_map (AllByRecursion P) (entry_variants number keys) Q made l all) e vs.0 vs.1) k entry vs.2
+        all_at P vs.0 (all_at (AllByRecursion P) entries (all_map (AllByRecursion P) (entry_variants number same keys (meanings same g.templates)) Q made l all) e vs.0 vs.1) k entry vs.2
 
-    rule_at : (r k : ℕ) (rule : RuleVariant) → rule_variant (build number keys g l) r k ≡ Some rule → RuleIsBuilt keys.cat rule
+    rule_at : (r k : ℕ) (rule : RuleVariant) → rule_variant (build number same keys g l) r k ≡ Some rule → RuleIsBuilt keys.cat rule
     rule_at = every_rule (RuleIsBuilt keys.cat) (λ r. Unit {0}) (λ r u. rule_is_built number keys.cat r) (everything g.rules)
 
-    entry_at : (e k : ℕ) (entry : EntryVariant) → entry_variant (build number keys g l) e k ≡ Some entry → EntryIsBuilt entry
-    entry_at = every_entry EntryIsBuilt (λ e. Unit {0}) (λ e u. entry_is_built e) (everything l)
+    entry_at : (e k : ℕ) (entry : EntryVariant) → entry_variant (build number same keys g l) e k ≡ Some entry → EntryIsBuilt keys.cat entry
+    entry_at = every_entry (EntryIsBuilt keys.cat) (λ e. Unit {0}) (λ e u. entry_is_built (meanings same g.templates) e) (everything l)
 
-    pub are_built : AreBuilt (build number keys g l) keys.cat
+    pub are_built : AreBuilt (build number same keys g l) keys.cat
     are_built = record {
       categories = record { rules = λ r k rule h. let b = rule_at r k rule h in (b.0, b.1); entries = λ e k entry h. (entry_at e k entry h).0 };
       states = λ r k rule h s c q.

@@ -10,6 +10,7 @@ use Rattle.patr_model.specs.Parsing.{Refusal, Expected, NotAConstituent, TwiceNa
 use Rattle.patr_model.specs.Stages.{Stage}
 use Rattle.patr_model.specs.LexiconText.{EntryOf}
 use Rattle.patr_model.specs.Productions.{SymbolText, PathText, TermText, AtomText, OfPath, EquationText, FeatureText, Equates, Names, RuleText, Template, LexicalRule, Grammar, Outcome, Stands, NoRules, Refused, grammar}
+use Rattle.patr_model.specs.Build.{Meaning, ExpandFault, UnknownName, TooManyVariants, TooManyEquations, BuildFault, InGrammar, InLexicon}
 
 module _ {W V : Type 0} (S : W → V → Type 0) where
   -- the same symbol of a rule, of the same category
@@ -77,6 +78,24 @@ module _ {W V : Type 0} (S : W → V → Type 0) where
     pub category : S e.category f.category
     pub gloss : Both S e.gloss f.gloss
     pub features : SameRow SameFeatureText e.features f.features
+
+  -- the same features, in what one name stands for
+  pub record SameMeaning (m : Meaning W) (n : Meaning V) : Type 0 where
+    pub name : S m.name n.name
+    pub body : SameRow SameEquationText m.body n.body
+
+  -- the same fault of a template, a rule or an entry
+  abbrev pub SameExpandFault : ExpandFault W → ExpandFault V → Type 0
+  SameExpandFault (UnknownName a p) (UnknownName b q) = S a b × (p ≡ q)
+  SameExpandFault (TooManyVariants n k) (TooManyVariants m l) = (n ≡ m) × (k ≡ l)
+  SameExpandFault (TooManyEquations n k) (TooManyEquations m l) = (n ≡ m) × (k ≡ l)
+  SameExpandFault _ _ = ⊥
+
+  -- the same fault of a grammar or of a lexicon
+  abbrev pub SameBuildFault : BuildFault W → BuildFault V → Type 0
+  SameBuildFault (InGrammar f) (InGrammar h) = SameExpandFault f h
+  SameBuildFault (InLexicon f) (InLexicon h) = SameExpandFault f h
+  SameBuildFault _ _ = ⊥
 
   -- a token, or the end, is refused for one reason
   abbrev pub SameRefusal : Refusal W → Refusal V → Type 0

@@ -1,5 +1,5 @@
 -- Laws of what a build makes.
-use Rattle.std.specs.Prelude.{◌≡◌, ℕ, suc, ◌<◌, List, [], ◌∷◌, ◌++◌, length, Some}
+use Rattle.std.specs.Prelude.{◌≡◌, ℕ, suc, ◌<◌, List, [], ◌∷◌, ◌++◌, length, Bool, nat_eq, Some}
 use Rattle.patr_model.specs.Equation.{Equation}
 use Rattle.patr_model.specs.Derivation.{Rules, RuleVariant, EntryVariant, rule_variant, entry_variant, Derivation, Begin, seen, IsPartial, IsComplete}
 use Rattle.patr_model.specs.Chart.{IsDerivation}
@@ -9,18 +9,20 @@ use Rattle.patr_model.specs.Solved.{solved}
 use Rattle.patr_model.specs.Plain.{IsPlain, bare, stated, IsFact, slot_category, category_of, SameCategory}
 use Rattle.patr_model.specs.Variants.{AreWithin}
 use Rattle.patr_model.specs.Laws.{StatesCategories}
+use Rattle.patr_model.specs.Bytes.{same_text}
 use Rattle.patr_model.specs.Session.{Numbering}
 use Rattle.patr_model.specs.Productions.{RuleText, Grammar}
 use Rattle.patr_model.specs.LexiconText.{EntryOf}
-use Rattle.patr_model.specs.Renaming.{Each, AreOne, SameRow, SameRule, SameGrounds}
-use Rattle.patr_model.specs.Agreeing.{SameSymbolText, SameEquationText, SameGrammar, SameEntryText}
+use Rattle.patr_model.specs.Renaming.{Each, Both, AreOne, SameRow, SameRule, SameGrounds}
+use Rattle.patr_model.specs.Agreeing.{SameSymbolText, SameEquationText, SameGrammar, SameEntryText, SameBuildFault}
 use Rattle.patr_model.specs.Build.{Keys, rule_variants, build, build_fault, grounds}
 
--- The variants, and what is too large, do not depend on what stands for the words: texts and numbers that belong together give the same.
+-- The variants, and what is refused, do not depend on what stands for the words: texts and numbers that belong together, and are equal together, give the same.
 abbrev pub BuildsIgnoreWords : Type 0
 BuildsIgnoreWords = (number : List ℕ → ℕ) (other : ℕ → ℕ) (keys : Keys) (g : Grammar (List ℕ)) (h : Grammar ℕ) (l : List (EntryOf (List ℕ))) (k : List (EntryOf ℕ))
+    → ((t u : List ℕ) (n m : ℕ) → other n ≡ number t → other m ≡ number u → same_text t u ≡ nat_eq n m)
     → SameGrammar (λ t n. other n ≡ number t) g h → Each (SameEntryText (λ t n. other n ≡ number t)) l k
-    → (build number keys g l ≡ build other keys h k) × (build_fault g l ≡ build_fault h k)
+    → (build number same_text keys g l ≡ build other nat_eq keys h k) × Both (SameBuildFault (λ t n. other n ≡ number t)) (build_fault same_text g l) (build_fault nat_eq h k)
 
 -- what a session stands on is under each numbering the same
 abbrev pub BuildsIgnoreNumbers : Type 0
@@ -59,7 +61,7 @@ pub record AreBuilt (g : Rules) (cat : ℕ) : Type 0 where
 
 -- a build makes such variants, by whatever stands for the words
 abbrev pub BuildsStateCategoriesBy : Type 0 → Type 0
-BuildsStateCategoriesBy W = (number : W → ℕ) (keys : Keys) (g : Grammar W) (l : List (EntryOf W)) → AreBuilt (build number keys g l) keys.cat
+BuildsStateCategoriesBy W = (number : W → ℕ) (same : W → W → Bool) (keys : Keys) (g : Grammar W) (l : List (EntryOf W)) → AreBuilt (build number same keys g l) keys.cat
 
 -- by texts, and by their numbers
 pub record BuildsStateCategories : Type 0 where

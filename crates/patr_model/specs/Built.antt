@@ -1,11 +1,11 @@
--- The notations that are built, as a run reads them: rules and entries with path equations, sentences, and the commands that speak of the session alone.
+-- The notations that are built, as a run reads them: rules and entries with path equations, templates, options and alternatives, sentences, and the commands that speak of the session alone.
 use Rattle.patr_model.specs.Run.{Notations}
-use Rattle.patr_model.specs.Stages.{Stage, with_equations}
+use Rattle.patr_model.specs.Stages.{Stage, with_groups}
 use Rattle.patr_model.specs.Notations.{lines_with_commands, notations}
 
 -- the forms that are built
 abbrev pub stage : Stage
-stage = with_equations
+stage = with_groups
 
 -- the notations at this stage
 abbrev pub built : Notations

@@ -2,6 +2,7 @@
 --     notations s forms      what a run reads at the stage s
 --     lines_with_commands    lines with sentences, and with the commands that speak of the session alone
 use Rattle.std.specs.Prelude.{◌≡◌, ℕ, List, Option, Some, None, option_and_then, codes}
+use Rattle.patr_model.specs.Bytes.{same_text}
 use Rattle.patr_model.specs.Solved.{solved}
 use Rattle.patr_model.specs.Session.{LineForms, Command, Limit, Features, Count, Show, Grammar, Make, Quit, command_of, line}
 use Rattle.patr_model.specs.Run.{Ending, BadGrammar, BadLexicon, Notations}
@@ -13,7 +14,7 @@ use Rattle.patr_model.specs.CommandLine.{command_words}
 use Rattle.patr_model.specs.Build.{BuildFault, InGrammar, InLexicon, build_fault, build_fault_line, grounds}
 
 -- how a run ends whose build refuses a grammar or a lexicon
-abbrev pub fault_ending : BuildFault → Ending
+abbrev pub fault_ending : {W : Type 0} → BuildFault W → Ending
 fault_ending (InGrammar f) = BadGrammar
 fault_ending (InLexicon f) = BadLexicon
 
@@ -36,7 +37,7 @@ lines_with_commands = record {
   more = λ s st c text. ⊥;
 }
 
--- What a run reads at a stage: a build refuses the first rule or entry that is too large, and else makes the variants; edges are judged by unification.
+-- What a run reads at a stage: a build refuses the first unknown name, or rule or entry that is too large, and else makes the variants; edges are judged by unification.
 abbrev pub notations : Stage → LineForms → Notations
 notations stage forms = record {
   grammar_text = text.Grammar (List ℕ);
@@ -46,8 +47,8 @@ notations stage forms = record {
   grammar_fault = λ N. HasGrammarFault stage;
   reads_lexicon = λ N. ReadsLexicon stage;
   lexicon_fault = λ N. HasLexiconFault stage;
-  refuses = λ N g l message ending. (f : BuildFault) × (build_fault g l ≡ Some f) × (message ≡ build_fault_line f) × (ending ≡ fault_ending f);
-  builds = λ N g l s. (build_fault g l ≡ None) × (s ≡ grounds N g l);
+  refuses = λ N g l message ending. (f : BuildFault (List ℕ)) × (build_fault same_text g l ≡ Some f) × (message ≡ build_fault_line f) × (ending ≡ fault_ending f);
+  builds = λ N g l s. (build_fault same_text g l ≡ None) × (s ≡ grounds N g l);
   judge = solved;
   lines = forms;
 }

@@ -14,15 +14,14 @@ use Rattle.patr_model.specs.Derivation.{RuleVariant, EntryVariant, rule_variant,
 use Rattle.patr_model.specs.Plain.{slot_category}
 use Rattle.patr_model.specs.Builds.{HasCategories}
 use Rattle.patr_model.specs.Equation.{Equation}
-use Rattle.patr_model.specs.Grammar.{variants}
-use Rattle.patr_model.specs.Build.{entry_variant_of, entry_variants, feature_variants}
+use Rattle.patr_model.specs.Build.{entry_variant_of, entry_variants, equation_variants, written_out}
 use Rattle.patr_model.specs.Rounds.{IsPredicted}
 use Rattle.patr_model.proofs.PlainChart.{follows, plainly, slot_atom, slot_is}
 use Rattle.patr_model.proofs.StatedCategories.{are_built}
 use Rattle.patr_chart.specs.Charted.{tree}
 use Rattle.patr_lexicon.specs.declared.lexicon.Entry.{Entry}
 use Rattle.patr_lexicon.specs.Seen.{entry_seen}
-use Rattle.patr_library.specs.Stored.{grammar_of, entries_of, number, word_at, is_number}
+use Rattle.patr_library.specs.Stored.{grammar_of, entries_of, meant, number, same, word_at, is_number}
 use Rattle.patr_parse.specs.Begun.{begun_unless, is_marked}
 use Rattle.patr_parse.proofs.Added.{AreNew, none_new, derivations_new}
 use Rattle.patr_parse.proofs.Items.{rule_item, begun_least, begun_solvable, IsBegun, in_begun, begun_in, once_begun, no_pair_begun}
@@ -31,7 +30,7 @@ use Rattle.patr_parse.proofs.Items.{rule_item, begun_least, begun_solvable, IsBe
 
 module _ (s : Stored) where
   pub has_categories : HasCategories (rules_of s) keys.cat
-  has_categories = (are_built number keys (grammar_of s.grammar) (entries_of s.lexicon)).categories
+  has_categories = (are_built number same keys (grammar_of s.grammar) (entries_of s.lexicon)).categories
 
   -- prediction compares categories alone
   pub by_category : (rules_of s).restrictor ≡ (keys.cat ∷ []) ∷ []
@@ -155,9 +154,9 @@ word_at_is s item entry h = go s.lexicon item.entry h
     of_all (v ∷ vs) e zero q = ap (λ (x : EntryVariant). Some x.word) (some_inj (entry_variant_of number keys (entry_seen e) v) entry q)
     of_all (v ∷ vs) e (suc k) q = of_all vs e k q
 
-    go : (l : List Entry) (n : ℕ) → option_and_then (λ vs. slice_get vs item.variant) (slice_get (map (entry_variants number keys) (entries_of l)) n) ≡ Some entry → word_at l n ≡ Some entry.word
+    go : (l : List Entry) (n : ℕ) → option_and_then (λ vs. slice_get vs item.variant) (slice_get (map (entry_variants number same keys (meant s.grammar.templates.items)) (entries_of l)) n) ≡ Some entry → word_at l n ≡ Some entry.word
     go [] n q = cc
-    go (e ∷ l) zero q = of_all (variants (feature_variants number) (entry_seen e).features) e item.variant q
+    go (e ∷ l) zero q = of_all (equation_variants number (written_out same (meant s.grammar.templates.items) (entry_seen e).features)) e item.variant q
     go (e ∷ l) (suc n) q = go l n q
 
 word_of : (s : Stored) (item : EntryItem) (entry : EntryVariant) → entry_variant (rules_of s) item.entry item.variant ≡ Some entry → (w : ℕ) → w ≡ entry.word → is_of_word s.lexicon w item ≡ true

@@ -1,9 +1,10 @@
 -- The variants of a library name no other symbols than those that the library holds.
-use Rattle.std.proofs.Common.{◌≡◌, ℕ, zero, suc, ◌<◌, ◌≤◌, Bool, true, nat_lt, lt-ltb, ltb-true, List, [], ◌∷◌, ◌++◌, map, Option, Some, None, IfSome, option_map, option_and_then, filter_map, slice_get, refl, sym, ap, ◌∙◌, subst, arith}
-use Rattle.patr_reply.proofs.Names.{AllByRecursion, AllIn, AllInRows, AllPass, AreHeldBy, AreNamed, AtomText, Done, EntryIsHeld, EntryOf, EntryVariant, Equates, Equation, EquationIsHeld, EquationText, FeatureIsHeld, FeatureText, Id, MayBeBelow, Names, None', OfPath, One, OneOf, Optional, Or, Passes, PathOf, Row, Rows, RuleIsHeld, RuleText, RuleVariant, Stored, SymbolIsHeld, SymbolText, Term, TermIsHeld, TermPasses, TermText, all_append, all_at, all_flat, all_map, and_then_some, category_equations, cons_option, entries_of, entry_seen, entry_variant, entry_variant_of, entry_variants, facts_of, feature_equation, feature_variants, gloss_fact, grammar_of, head_slot, keys, number, placed_equation, placed_term, products, rule_variant, rule_variant_of, rule_variants, rules_of, single, slice_get-map, some_inj, variants, variants_of}
+use Rattle.std.proofs.Common.{◌≡◌, ℕ, zero, suc, ◌<◌, ◌≤◌, Bool, true, false, cond, nat_lt, lt-ltb, ltb-true, List, [], ◌∷◌, ◌++◌, map, Option, Some, None, IfSome, option_map, option_and_then, filter_map, slice_get, refl, sym, ap, ◌∙◌, subst, arith}
+use Rattle.patr_reply.proofs.Names.{AllByRecursion, AllIn, AllInRows, AllPass, AreHeldBy, AreNamed, AtomText, Done, EntryIsHeld, EntryOf, EntryVariant, Equates, Equation, EquationIsHeld, EquationText, FeatureIsHeld, FeatureText, Id, MayBeBelow, Names, None', OfPath, One, OneOf, Optional, Or, Passes, PathOf, Row, Rows, RuleIsHeld, RuleText, RuleVariant, Stored, SymbolIsHeld, SymbolText, Term, TermIsHeld, TermPasses, TermText, all_append, all_at, all_flat, all_map, and_then_some, category_equations, cons_option, entries_of, entry_seen, entry_variant, Meaning, Template, TemplateIsHeld, all_written_out, chosen, entry_variant_of, entry_variants, equation_variants, facts_of, feature_equation, gloss_fact, grammar_of, meaning_of, meanings, meanings_from, meant, same, with_template, written_out, head_slot, keys, number, placed_equation, placed_term, products, rule_variant, rule_variant_of, rule_variants, rules_of, single, slice_get-map, some_inj, variants, variants_of}
 use Rattle.std.specs.Option as options
 use Rattle.patr_model.specs.Plain.{stated}
 use Rattle.patr_model.proofs.StatedCategories.{everything, every_rule, every_entry}
+use Rattle.patr_lists.proofs.Alls.{all_more}
 use Rattle.patr_lexicon.specs.declared.lexicon.Entry as code
 use Rattle.patr_reply.specs.Held.{IsBelow}
 
@@ -24,6 +25,39 @@ module _ {A Y : Type 0} (P : Y → Type 0) (Q : A → Type 0) (f : A → List (L
     choices_in : (rs : Rows A) → AllInRows Q rs → AllByRecursion (AllByRecursion P) (variants_of f rs)
     choices_in None' h = tt
     choices_in (Or r rs) h = all_append (AllByRecursion P) (variants f r) (variants_of f rs) (variants_in r h.0) (choices_in rs h.1)
+
+-- ---- what names stand for
+
+module _ (n : ℕ) where
+  -- the attributes and atoms of what a name stands for
+  abbrev pub MeaningIsHeld : Meaning Id → Type 0
+  MeaningIsHeld m = AllIn (EquationIsHeld n) m.body
+
+  chosen_held : (ms : List (Meaning Id)) → AllByRecursion MeaningIsHeld ms → (w : Id) → AllInRows (EquationIsHeld n) (chosen (meaning_of same ms w))
+  chosen_held [] h w = tt
+  chosen_held (m ∷ ms) h w = go (same m.name w) (chosen_held ms h.1 w)
+    where
+      go : (b : Bool) → AllInRows (EquationIsHeld n) (chosen (meaning_of same ms w)) → AllInRows (EquationIsHeld n) (chosen (cond b (Some m.body) (meaning_of same ms w)))
+      go true k = (h.0, tt)
+      go false k = k
+
+  module _ (ms : List (Meaning Id)) (held : AllByRecursion MeaningIsHeld ms) where
+    mutual
+      pub written_held : (r : Row (FeatureText Id)) → AllIn (FeatureIsHeld n) r → AllIn (EquationIsHeld n) (written_out same ms r)
+      written_held Done h = tt
+      written_held (One (Equates e) r) h = (h.0, written_held r h.1)
+      written_held (One (Names w p) r) h = (chosen_held ms held w, written_held r h.1)
+      written_held (OneOf rs r) h = (all_written_held rs h.0, written_held r h.1)
+      written_held (Optional rs r) h = (all_written_held rs h.0, written_held r h.1)
+
+      all_written_held : (rs : Rows (FeatureText Id)) → AllInRows (FeatureIsHeld n) rs → AllInRows (EquationIsHeld n) (all_written_out same ms rs)
+      all_written_held None' h = tt
+      all_written_held (Or r rs) h = (written_held r h.0, all_written_held rs h.1)
+
+  pub meanings_held : (ts : List (Template Id)) → AllByRecursion (TemplateIsHeld n) ts → (ms : List (Meaning Id)) → AllByRecursion MeaningIsHeld ms → AllByRecursion MeaningIsHeld (meanings_from same ms ts)
+  meanings_held [] h ms held = held
+  meanings_held (t ∷ ts) h ms held =
+      meanings_held ts h.1 (with_template same ms t) (all_more MeaningIsHeld ms (record { name = t.name; body = written_out same ms t.body }) held (written_held ms held t.body h.0))
 
 -- ---- rules and entries
 
@@ -99,29 +133,31 @@ module _ (n : ℕ) (known : 38 ≤ n) where
       gloss None k = tt
       gloss (Some i) k = ((passes 35 (omega (arith, known)), passes i.0 k), tt)
 
-  feature_passes : (f : FeatureText Id) → FeatureIsHeld n f → AllByRecursion (AllByRecursion (Passes test)) (feature_variants number f)
-  feature_passes (Equates e) h = (((path_passes e.left.attributes h.0, go e.right h.1), tt), tt)
+  equation_passes : (e : EquationText Id) → EquationIsHeld n e → AllByRecursion (AllByRecursion (Passes test)) (single (feature_equation number e))
+  equation_passes e h = (((path_passes e.left.attributes h.0, go e.right h.1), tt), tt)
     where
       go : (t : TermText Id) → TermIsHeld n t → TermPasses test (feature_equation number (record { left = e.left; right = t })).right
       go (AtomText a) k = passes a.0 k
       go (OfPath p) k = path_passes p.attributes k
-  feature_passes (Names w p) h = tt
 
   abbrev EntryPasses : EntryVariant → Type 0
   EntryPasses v = AllByRecursion (Passes test) v.equations × (v.chain ≡ [])
 
-  entry_passes : (e : EntryOf Id) → EntryIsHeld n e → AllByRecursion EntryPasses (entry_variants number keys e)
-  entry_passes e h =
+  entry_passes : (ms : List (Meaning Id)) → AllByRecursion (MeaningIsHeld n) ms → (e : EntryOf Id) → EntryIsHeld n e → AllByRecursion EntryPasses (entry_variants number same keys ms e)
+  entry_passes ms held e h =
       all_map EntryPasses (entry_variant_of number keys e) (AllByRecursion (Passes test))
       (λ es a. (all_append (Passes test) (stated (facts_of number keys e)) es (stated_pass (facts_of number keys e) (facts_pass e h)) a, refl))
-      (variants (feature_variants number) e.features) (variants_in (Passes test) (FeatureIsHeld n) (feature_variants number) feature_passes e.features h.features)
+      (equation_variants number (written_out same ms e.features))
+      (variants_in (Passes test) (EquationIsHeld n) (λ f. single (feature_equation number f)) equation_passes (written_out same ms e.features) (written_held n ms held e.features h.features))
 
   module _ (s : Stored) (held : AreHeldBy n s) where
     rule_there : (r k : ℕ) (rule : RuleVariant) → rule_variant (rules_of s) r k ≡ Some rule → RulePasses rule
-    rule_there = every_rule number keys (grammar_of s.grammar) (entries_of s.lexicon) RulePasses (RuleIsHeld n) rule_passes held.rules
+    rule_there = every_rule number same keys (grammar_of s.grammar) (entries_of s.lexicon) RulePasses (RuleIsHeld n) rule_passes held.rules
 
     entry_there : (e k : ℕ) (entry : EntryVariant) → entry_variant (rules_of s) e k ≡ Some entry → EntryPasses entry
-    entry_there = every_entry number keys (grammar_of s.grammar) (entries_of s.lexicon) EntryPasses (EntryIsHeld n) entry_passes held.entries
+    entry_there =
+        every_entry number same keys (grammar_of s.grammar) (entries_of s.lexicon) EntryPasses (EntryIsHeld n)
+        (entry_passes (meant s.grammar.templates.items) (meanings_held n (grammar_of s.grammar).templates held.templates [] tt)) held.entries
 
     pub are_named : AreNamed test (rules_of s)
     are_named = record {
@@ -142,17 +178,19 @@ IsVariantOf x v = (v.category ≡ x.category.0) × (v.word ≡ x.word.0)
 pub entry_from : (s : Stored) (e k : ℕ) (v : EntryVariant) → entry_variant (rules_of s) e k ≡ Some v → (x : code.Entry) × (slice_get s.lexicon e ≡ Some x) × IsVariantOf x v
 entry_from s e k v h =
     let vs = and_then_some (slice_get (rules_of s).entries e) (λ ws. slice_get ws k) v h in
+    let ms = meant s.grammar.templates.items in
     let x = found s.lexicon e vs.0 vs.1 in (
       x.0,
       x.1,
-      all_at (IsVariantOf x.0) (entry_variants number keys (entry_seen x.0))
-          (all_map (IsVariantOf x.0) (entry_variant_of number keys (entry_seen x.0)) (λ es. Unit {0}) (λ es u. (refl, refl)) (variants (feature_variants number) (entry_seen x.0).features) (everything (variants (feature_variants number) (entry_seen x.0).features)))
+      all_at (IsVariantOf x.0) (entry_variants number same keys ms (entry_seen x.0))
+          (all_map (IsVariantOf x.0) (entry_variant_of number keys (entry_seen x.0)) (λ es. Unit {0}) (λ es u. (refl, refl)) (equation_variants number (written_out same ms (entry_seen x.0).features)) (everything (equation_variants number (written_out same ms (entry_seen x.0).features))))
           k v (subst (λ (us : List EntryVariant). slice_get us k ≡ Some v) (sym x.2) vs.2),
     )
   where
-    found : (l : List code.Entry) (i : ℕ) (vs : List EntryVariant) → slice_get (map (entry_variants number keys) (entries_of l)) i ≡ Some vs → (x : code.Entry) × (slice_get l i ≡ Some x) × (entry_variants number keys (entry_seen x) ≡ vs)
+    found : (l : List code.Entry) (i : ℕ) (vs : List EntryVariant) → slice_get (map (entry_variants number same keys (meant s.grammar.templates.items)) (entries_of l)) i ≡ Some vs
+        → (x : code.Entry) × (slice_get l i ≡ Some x) × (entry_variants number same keys (meant s.grammar.templates.items) (entry_seen x) ≡ vs)
     found [] i vs q = cc
-    found (x ∷ l) zero vs q = (x, refl, some_inj (entry_variants number keys (entry_seen x)) vs q)
+    found (x ∷ l) zero vs q = (x, refl, some_inj (entry_variants number same keys (meant s.grammar.templates.items) (entry_seen x)) vs q)
     found (x ∷ l) (suc i) vs q = found l i vs q
 
 pub entry_below : (n : ℕ) (s : Stored) → AreHeldBy n s → (e : ℕ) (x : code.Entry) → slice_get s.lexicon e ≡ Some x → (x.category.0 < n) × (x.word.0 < n)

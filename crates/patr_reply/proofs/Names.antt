@@ -7,18 +7,18 @@ pub use Rattle.patr_chart.specs.declared.edge.EdgeKind.{EdgeKind}
 pub use Rattle.patr_chart.specs.declared.edge.EdgeKind.TheVariants.{Rule}
 pub use Rattle.patr_grammar.specs.Reading.{IsText, equation_seen, features_seen}
 pub use Rattle.patr_lexicon.specs.Seen.{entry_seen}
-pub use Rattle.patr_library.specs.Stored.{IsRuleItem, IsStored, Stored, entries_of, grammar_of, keys, number, rules_of}
+pub use Rattle.patr_library.specs.Stored.{IsRuleItem, IsStored, Stored, entries_of, grammar_of, keys, meant, number, rules_of, same}
 pub use Rattle.patr_lists.proofs.Alls.{all_append, all_at, all_flat, all_get, all_left, all_map, all_right}
 pub use Rattle.patr_lists.proofs.Places.{get_there}
 pub use Rattle.patr_lists.proofs.Results.{if_ok_is}
 pub use Rattle.patr_model.proofs.Maps.{and_then_some, carries, carries_arc, some_inj}
-pub use Rattle.patr_model.specs.Build.{category_equations, entry_variant_of, entry_variants, facts_of, feature_equation, feature_variants, gloss_fact, head_slot, placed_equation, placed_term, rule_variant_of, rule_variants}
+pub use Rattle.patr_model.specs.Build.{category_equations, Meaning, all_written_out, chosen, entry_variant_of, entry_variants, equation_variants, facts_of, feature_equation, gloss_fact, head_slot, meaning_of, meanings, meanings_from, placed_equation, placed_term, rule_variant_of, rule_variants, with_template, written_out}
 pub use Rattle.patr_model.specs.Chart.{HasMoreThan, IsAnalysis, IsChart}
 pub use Rattle.patr_model.specs.Derivation.{Begin, Derivation, EntryVariant, Extend, IsComplete, Leaf, RuleVariant, Rules, entry_variant, rule_variant, seen}
 pub use Rattle.patr_model.specs.Equation.{AtomOf, Equation, Holds, PathOf, SlotPath, Term, reached, side}
 pub use Rattle.patr_model.specs.Grammar.{Done, None', One, OneOf, Optional, Or, Row, Rows, products, single, variants, variants_of}
 pub use Rattle.patr_model.specs.LexiconText.{EntryOf}
-pub use Rattle.patr_model.specs.Productions.{AtomText, Equates, EquationText, FeatureText, Names, OfPath, PathText, RuleText, SymbolText, TermText}
+pub use Rattle.patr_model.specs.Productions.{AtomText, Equates, EquationText, FeatureText, Names, OfPath, PathText, RuleText, SymbolText, Template, TermText}
 pub use Rattle.patr_model.specs.Session.{AgreesWith, CountsEdges, Grounds, IsLeastText, IsSentenceReply, ListsAll, ListsAnalyses, Numbering, analyses, cat_of, line, too_many, unknown}
 pub use Rattle.patr_model.specs.Solution.{Chain, IsLeastValue, Solution, Solves}
 pub use Rattle.patr_model.specs.Solved.{solved}
@@ -27,7 +27,7 @@ pub use Rattle.patr_model.specs.Table.{table_look, table_text, text_or, total, z
 pub use Rattle.patr_model.specs.Text.{Look, canonical, entry_category, entry_word, mother_category, open_tree, printed, tree_text}
 pub use Rattle.patr_parse.specs.Found.{AreSound, Found, IsOfItem, IsSound}
 pub use Rattle.patr_parse.specs.Sentences.{AreNumbers, IsFirstCause, IsFirstUnknown, IsKnown, IsParsed}
-pub use Rattle.patr_reply.specs.Held.{AllIn, AllInRows, AreHeldBy, EntryIsHeld, EquationIsHeld, FeatureIsHeld, LibrariesAreHeld, MayBeBelow, PathIsHeld, RuleIsHeld, SymbolIsHeld, TermIsHeld}
+pub use Rattle.patr_reply.specs.Held.{AllIn, AllInRows, AreHeldBy, EntryIsHeld, EquationIsHeld, FeatureIsHeld, LibrariesAreHeld, MayBeBelow, PathIsHeld, RuleIsHeld, SymbolIsHeld, TemplateIsHeld, TermIsHeld}
 pub use Rattle.patr_reply.specs.Lines.{analysis_lines, analysis_text, count_line, grounds, listing, look_by, state_of, tree_line, value_line}
 pub use Rattle.patr_reply.specs.Naming.{AllPass, AreNamed, HasNamed, LeastValuesNameSymbols, Passes, TermPasses}
 pub use Rattle.patr_reply.specs.Sources.{AreOfLibrary, IsEntryOf, IsOfLibrary, IsReady, IsRuleOf, edge_value, value_at}

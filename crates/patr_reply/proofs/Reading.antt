@@ -1,8 +1,12 @@
--- What was read by a table is held by it.
-use Rattle.std.proofs.Common.{ℕ, List, [], ◌∷◌, length, Option, Some, None}
-use Rattle.patr_reply.proofs.Names.{AllByRecursion, AllIn, AllInRows, AtomText, Done, EntryIsHeld, EntryOf, Equates, EquationIsHeld, EquationText, FeatureIsHeld, FeatureText, Id, IsText, LibrariesAreHeld, MayBeBelow, Names, None', OfPath, One, OneOf, Optional, Or, PathIsHeld, PathText, Row, Rows, RuleIsHeld, RuleText, SymbolIsHeld, TermIsHeld, TermText, entries_of, grammar_of, slice_get_within}
+-- What was read by a table is held by it, and each entry of what a build accepts has a variant.
+use Rattle.std.proofs.Common.{◌≡◌, ℕ, ◌<◌, List, [], ◌∷◌, length, map, Option, Some, None, refl, arith}
+use Rattle.patr_reply.proofs.Names.{AllByRecursion, AllIn, AllInRows, AtomText, Done, EntryIsHeld, EntryOf, Equates, EquationIsHeld, EquationText, FeatureIsHeld, FeatureText, Id, IsText, Meaning, Template, TemplateIsHeld, entry_variant_of, entry_variants, equation_variants, feature_equation, keys, length-map, meanings, number, same, single, written_out, LibrariesAreHeld, MayBeBelow, Names, None', OfPath, One, OneOf, Optional, Or, PathIsHeld, PathText, Row, Rows, RuleIsHeld, RuleText, SymbolIsHeld, TermIsHeld, TermText, entries_of, grammar_of, slice_get_within}
 use Rattle.patr_model.specs.Renaming.{Each, Both, SameRow, SameRows'}
-use Rattle.patr_model.specs.Agreeing.{SameSymbolText, SamePathText, SameTermText, SameEquationText, SameFeatureText, SameRuleText, SameEntryText}
+use Rattle.patr_model.specs.Agreeing.{SameSymbolText, SamePathText, SameTermText, SameEquationText, SameFeatureText, SameRuleText, SameTemplate, SameEntryText}
+use Rattle.patr_model.specs.Grammar.{IsFull}
+use Rattle.patr_model.specs.Productions.{things}
+use Rattle.patr_model.specs.Build.{ExpandFault, entries_fault, equations_fault, features_fault, grammar_fault, grammar_first, rules_fault, templates_fault, unknown_name}
+use Rattle.patr_model.proofs.FullRows.{MeaningIsFull, first_variant, meanings_full, none_first, same_full, written_full}
 use Rattle.patr_reply.specs.Held.{IsBelow}
 
 module _ {X Y : Type 0} (R : X → Y → Type 0) (P : X → Type 0) (each : (x : X) (y : Y) → R x y → P x) where
@@ -80,8 +84,51 @@ module _ (table : List (List ℕ)) where
     features = row_held (SameFeatureText S) (FeatureIsHeld n) feature_held e.features f.features h.features;
   }
 
+  template_held : (t : Template Id) (u : Template (List ℕ)) → SameTemplate S t u → TemplateIsHeld n t
+  template_held t u h = row_held (SameFeatureText S) (FeatureIsHeld n) feature_held t.body u.body h.body
+
+-- ---- variants of entries
+
+module _ (ms : List (Meaning Id)) (full : AllByRecursion MeaningIsFull ms) where
+  entry_some : (e : EntryOf Id) → IsFull e.features → features_fault same ms e.line e.features ≡ None → 0 < length (entry_variants number same keys ms e)
+  entry_some e h none =
+      let r = written_out same ms e.features in
+      let known = (none_first same (unknown_name same ms (things e.features)) (equations_fault e.line r) none).0 in
+      let some = first_variant (λ f. single (feature_equation number f)) (λ f. omega arith) r (written_full same ms full e.features h known) in
+      omega (arith, some, length-map (equation_variants number r) (entry_variant_of number keys e))
+
+  entries_some : (es : List (EntryOf Id)) → AllByRecursion (λ e. IsFull e.features) es → entries_fault same ms es ≡ None → AllByRecursion (λ vs. 0 < length vs) (map (entry_variants number same keys ms) es)
+  entries_some [] h none = tt
+  entries_some (e ∷ es) h none =
+      let parts = none_first same (features_fault same ms e.line e.features) (entries_fault same ms es) none in
+      (entry_some e h.0 parts.0, entries_some es h.1 parts.1)
+
+no_build_fault : (f o : Option (ExpandFault Id)) → grammar_first f o ≡ None → (f ≡ None) × (o ≡ None)
+no_build_fault None None h = (refl, refl)
+no_build_fault None (Some x) h = absurd cc
+no_build_fault (Some x) o h = absurd cc
+
+-- what is the same as full rows is full
+all_full : {X Y : Type 0} (R : X → Y → Type 0) (P : X → Type 0) (Q : Y → Type 0) → ((x : X) (y : Y) → R x y → Q y → P x) → (xs : List X) (ys : List Y) → Each R xs ys → AllByRecursion Q ys → AllByRecursion P xs
+all_full R P Q f [] [] h k = tt
+all_full R P Q f (x ∷ xs) (y ∷ ys) h k = (f x y h.0 k.0, all_full R P Q f xs ys h.1 k.1)
+all_full R P Q f _ _ h k = absurd h
+
 pub libraries_are_held : LibrariesAreHeld
-libraries_are_held table s g l grammar lexicon = record {
-  rules = all_held (SameRuleText (IsText table)) (RuleIsHeld (length table)) (rule_held table) (grammar_of s.grammar).rules g.rules grammar.rules;
-  entries = all_held (SameEntryText (IsText table)) (EntryIsHeld (length table)) (entry_held table) (entries_of s.lexicon) l lexicon;
-}
+libraries_are_held table s g l grammar lexicon full_templates full_entries faultless =
+    let S = IsText table in
+    let h = grammar_of s.grammar in
+    let es = entries_of s.lexicon in
+    let ms = meanings same h.templates in
+    let none = no_build_fault (grammar_fault same h) (entries_fault same ms es) faultless in
+    let known = (none_first same (templates_fault same h.templates) (rules_fault h.rules) none.0).0 in
+    let templates : AllByRecursion (λ t. IsFull t.body) h.templates =
+    all_full (SameTemplate S) (λ t. IsFull t.body) (λ u. IsFull u.body) (λ t u is full. (same_full (SameFeatureText S) t.body u.body is.body).1 full) h.templates g.templates grammar.templates full_templates in
+    let entries : AllByRecursion (λ e. IsFull e.features) es =
+    all_full (SameEntryText S) (λ e. IsFull e.features) (λ f. IsFull f.features) (λ e f is full. (same_full (SameFeatureText S) e.features f.features is.features).1 full) es l lexicon full_entries in
+    record {
+      rules = all_held (SameRuleText S) (RuleIsHeld (length table)) (rule_held table) h.rules g.rules grammar.rules;
+      templates = all_held (SameTemplate S) (TemplateIsHeld (length table)) (template_held table) h.templates g.templates grammar.templates;
+      entries = all_held (SameEntryText S) (EntryIsHeld (length table)) (entry_held table) es l lexicon;
+      variants = entries_some ms (meanings_full same h.templates templates known) es entries none.1;
+    }

@@ -1,6 +1,6 @@
 -- One step of writing a tree's text.
 use Rattle.std.proofs.Common.{◌≡◌, ℕ, ◌+◌, ◌<◌, List, [], ◌∷◌, ◌++◌, length, cond, Some, None, slice_get, Result, Ok, Err, IfOk, codes, refl, sym, subst, ap, ◌∙◌, arith, append_assoc, append-nil}
-use Rattle.patr_reply.proofs.Names.{AgreesWith, AllByRecursion, AreEdges, Edge, EdgeKind, IsHeld, IsStep, Look, Mark, Numbering, Rule, Rules, Tree, all_append, alone, entry_category, entry_variant, entry_word, look_by, mother_category, open_tree, printed, root_text, rule_variant, slice_get_within, step_text, step_weight, steps_text, steps_weight, tree_alone, tree_longer}
+use Rattle.patr_reply.proofs.Names.{AgreesWith, AllByRecursion, AreEdges, Edge, EdgeKind, IsHeld, IsStep, Look, Mark, Numbering, Rule, Rules, Tree, all_append, alone, entry_category, entry_variant, entry_word, look_by, mother_category, open_tree, printed, root_text, rule_variant, slice_get_within, step_text, step_weight, steps_text, steps_weight, tree_alone, tree_longer, tree, tree_text}
 use Rattle.std.specs.Result.{is_ok}
 use lib.Utf8.{encode}
 use Rattle.patr_chart.specs.declared.edge.EdgeKind.TheVariants.{Entry}
@@ -51,6 +51,12 @@ weights_append es (x ∷ xs) ys = omega (arith, weights_append es xs ys)
 steps_append : (l : Look) (g : Rules) (es : List Edge) (xs ys : List Step) → steps_text l g es (xs ++ ys) ≡ steps_text l g es ys ++ steps_text l g es xs
 steps_append l g es [] ys = sym (append-nil (steps_text l g es ys))
 steps_append l g es (x ∷ xs) ys = ap (λ t. t ++ step_text l g es x) (steps_append l g es xs ys) ∙ append_assoc (steps_text l g es ys) (steps_text l g es xs) (step_text l g es x)
+
+-- nothing is left, and the tree is closed
+pub tree_closed : (l : Look) (g : Rules) (es : List Edge) (k : ℕ) (left : List Step) (old out : List ℕ) → length left ≡ 0 → out ++ steps_text l g es left ≡ old ++ open_tree l g (tree es k)
+    → out ++ 41 ∷ [] ≡ old ++ tree_text l g (tree es k)
+tree_closed l g es k [] old out none so = ap (λ t. t ++ 41 ∷ []) (sym (append-nil out) ∙ so) ∙ append_assoc old (open_tree l g (tree es k)) (41 ∷ [])
+tree_closed l g es k (s ∷ left) old out none so = absurd (omega (arith, none))
 
 module _ (table : List (List ℕ)) (g : Rules) (es : List Edge) (ss : List Step) (held : AllByRecursion (IsHeld (length es)) ss) where
   -- a text is written

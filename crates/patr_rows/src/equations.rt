@@ -111,7 +111,7 @@ fn structures_are_written(rt: HostRuntime) -> Result<(), Fail> {
 const LIST: &[u8] = b"Rule S -> W S_1 Rule S -> W";
 
 /// A text so many times, and then another.
-fn repeated(alloc: Global, text: &str, count: usize, last: &str) -> Result<String, Fail> {
+pub fn repeated(alloc: Global, text: &str, count: usize, last: &str) -> Result<String, Fail> {
     let mut all = String::new(alloc);
     for _ in 0..count {
         all.push_str(text)?;

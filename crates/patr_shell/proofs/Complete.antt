@@ -1,12 +1,12 @@
 -- Where the words, the files and the input are as they should be and no device fails, a run is done, or memory was short.
 use Rattle.std.proofs.Common.{◌≡◌, ◌⊎◌, ◌≤◌, ◌<◌, ◌^◌, ℕ, List, [], ◌∷◌, Option, Some, None, IfSome, Bool, true, false, true≢false, length, take, refl, sym, ◌∙◌, ap, subst, inl, inr, arith}
-use Rattle.patr_shell.proofs.Names.{OnTrue, IsSomeAnd, get, Rose, HasCause, Files, IsAbsent, solved, Setup, Session, IsOpening, IsOut, IsSession, Follows, first_state, BuildFault, InGrammar, InLexicon, build_fault, lines_with_commands, stage, built, some_inj, one_grammar, no_grammar_fault, one_lexicon, no_lexicon_fault, fault_of, cause_seen, Status, Refusal, HasQuit, Names, Builds, HasBadGrammar, HasBadLexicon, HaveSession, LooksAt, grammar, lexicon, CannotLoad, IsStatusOf, IsSessionStatus, IsEndOf, status_of, HasWritten, Writes, IsWithin, MayBeDone}
+use Rattle.patr_shell.proofs.Names.{OnTrue, IsSomeAnd, get, Rose, HasCause, Files, IsAbsent, solved, Setup, Session, IsOpening, IsOut, IsSession, Follows, first_state, BuildFault, InGrammar, InLexicon, build_fault, lines_with_commands, stage, built, some_inj, one_grammar, no_grammar_fault, one_lexicon, no_lexicon_fault, same_text, Status, Refusal, HasQuit, Names, Builds, HasBadGrammar, HasBadLexicon, HaveSession, LooksAt, grammar, lexicon, CannotLoad, HasRefusal, IsSessionStatus, IsEndOf, status_of, HasWritten, Writes, IsWithin, MayBeDone}
 use Rattle.patr_model.specs.Session.{Numbering, Grounds, State, Replied, whole_lines_of}
 use Rattle.patr_model.specs.Run as run
 use Rattle.patr_model.specs.GrammarText.{ReadsGrammar, grammar_fault_line}
 use Rattle.patr_model.specs.LexiconText.{ReadsLexicon, lexicon_fault_line}
 use Rattle.patr_model.specs.Build as model
-use Rattle.patr_lexicon.specs.Reading.{fault_of as lexicon_fault_of}
+use Rattle.patr_lexicon.specs.Reading.{fault_of}
 use Rattle.patr_shell.specs.declared.status.GrammarTrouble.{GrammarTrouble}
 use Rattle.patr_shell.specs.declared.status.GrammarTrouble.TheVariants as grammar_trouble
 use Rattle.patr_shell.specs.declared.status.LexiconTrouble.{LexiconTrouble}
@@ -25,13 +25,13 @@ as_read : (o : Option (List ℕ)) (P : List ℕ → Type 0) (told bytes : List �
 as_read o P told bytes here there holds = subst P (some_inj bytes told (sym there ∙ here)) holds
 
 -- two files stand for one grammar and one lexicon, of which the build refuses one thing
-one_fault : (f : Files) (g l : List ℕ) (x y : Option BuildFault) → Builds (Some f) g l x → Builds (Some f) g l y → x ≡ y
+one_fault : (f : Files) (g l : List ℕ) (x y : Option (BuildFault (List ℕ))) → Builds (Some f) g l x → Builds (Some f) g l y → x ≡ y
 one_fault f g l x y b c =
     let one_text = as_read (get f g) (λ z. ReadsGrammar stage z b.rules) c.grammar_bytes b.grammar_bytes c.grammar_file b.grammar_file b.reads_grammar in
     let one_list = as_read (get f l) (λ z. ReadsLexicon stage z b.entries) c.lexicon_bytes b.lexicon_bytes c.lexicon_file b.lexicon_file b.reads_lexicon in
     let rules : b.rules ≡ c.rules = one_grammar stage c.grammar_bytes b.rules c.rules one_text c.reads_grammar in
     let entries : b.entries ≡ c.entries = one_lexicon stage c.lexicon_bytes b.entries c.entries one_list c.reads_lexicon in
-    let between : build_fault b.rules b.entries ≡ build_fault c.rules c.entries = λ i. build_fault (rules i) (entries i) in
+    let between : build_fault same_text b.rules b.entries ≡ build_fault same_text c.rules c.entries = λ i. build_fault same_text (rules i) (entries i) in
     sym b.is ∙ between ∙ c.is
 
 -- lines of which one ends the session are not replied to up to their end
@@ -46,22 +46,22 @@ module _ (words : List (List ℕ)) (f : Files) (session : HaveSession words (Som
   one_setup s named = some_inj s session.0 (sym named ∙ session.1)
 
   -- the build refuses nothing
-  not_built : (fault : BuildFault) → Builds (Some f) session.0.grammar session.0.lexicon (Some fault) → ⊥
+  not_built : (fault : BuildFault (List ℕ)) → Builds (Some f) session.0.grammar session.0.lexicon (Some fault) → ⊥
   not_built fault bad = let e : None ≡ Some fault = one_fault f session.0.grammar session.0.lexicon None (Some fault) session.2 bad in cc
 
-  no_bad_grammar : (trouble : GrammarTrouble) → HasBadGrammar (Some f) session.0 trouble → ⊥
-  no_bad_grammar grammar_trouble.TooLong bad = not_long (get f session.0.grammar) 4194304 session.2.grammar_bytes session.2.grammar_file session.2.grammar_short bad
-  no_bad_grammar (grammar_trouble.Text cause) bad =
-      let here = as_read (get f session.0.grammar) (λ b. ReadsGrammar stage b session.2.rules) bad.0 session.2.grammar_bytes bad.1 session.2.grammar_file session.2.reads_grammar in
-      no_grammar_fault stage bad.0 (grammar_fault_line (fault_of cause)) session.2.rules here (fault_of cause, bad.3, refl)
-  no_bad_grammar (grammar_trouble.Expand cause) bad = not_built (InGrammar (cause_seen cause)) bad
+  no_bad_grammar : (trouble : GrammarTrouble) (text : List ℕ) → HasBadGrammar (Some f) session.0 trouble text → ⊥
+  no_bad_grammar grammar_trouble.TooLong text bad = not_long (get f session.0.grammar) 4194304 session.2.grammar_bytes session.2.grammar_file session.2.grammar_short bad.0
+  no_bad_grammar (grammar_trouble.Text cause) text bad =
+      let here = as_read (get f session.0.grammar) (λ b. ReadsGrammar stage b session.2.rules) bad.0 session.2.grammar_bytes bad.2 session.2.grammar_file session.2.reads_grammar in
+      no_grammar_fault stage bad.0 (grammar_fault_line bad.1) session.2.rules here (bad.1, bad.4, refl)
+  no_bad_grammar (grammar_trouble.Expand cause) text bad = not_built (InGrammar bad.0) bad.1
 
-  no_bad_lexicon : (trouble : LexiconTrouble) → HasBadLexicon (Some f) session.0 trouble → ⊥
-  no_bad_lexicon lexicon_trouble.TooLong bad = not_long (get f session.0.lexicon) 16777216 session.2.lexicon_bytes session.2.lexicon_file session.2.lexicon_short bad
-  no_bad_lexicon (lexicon_trouble.Text cause) bad = no_lexicon_fault stage bad.0 (lexicon_fault_line (lexicon_fault_of cause)) session.2.entries
+  no_bad_lexicon : (trouble : LexiconTrouble) (text : List ℕ) → HasBadLexicon (Some f) session.0 trouble text → ⊥
+  no_bad_lexicon lexicon_trouble.TooLong text bad = not_long (get f session.0.lexicon) 16777216 session.2.lexicon_bytes session.2.lexicon_file session.2.lexicon_short bad.0
+  no_bad_lexicon (lexicon_trouble.Text cause) text bad = no_lexicon_fault stage bad.0 (lexicon_fault_line (fault_of cause)) session.2.entries
       (as_read (get f session.0.lexicon) (λ b. ReadsLexicon stage b session.2.entries) bad.0 session.2.lexicon_bytes bad.1 session.2.lexicon_file session.2.reads_lexicon)
-      (lexicon_fault_of cause, bad.3, refl)
-  no_bad_lexicon (lexicon_trouble.Expand cause) bad = not_built (InLexicon (cause_seen cause)) bad
+      (fault_of cause, bad.3, refl)
+  no_bad_lexicon (lexicon_trouble.Expand cause) text bad = not_built (InLexicon bad.0) bad.1
 
   -- a file that is told is not absent
   not_absent : (name other bytes : List ℕ) → name ≡ other → get f other ≡ Some bytes → get f name ≡ None → ⊥
@@ -101,19 +101,18 @@ module _ (words : List (List ℕ)) (files : Option Files) (left : Option (List �
   told_session = subst (HaveSession words) may.told.1 may.session
 
   -- neither the words nor a file is refused
-  no_refusal : (r : Refusal) → IsStatusOf words files (status_of r) → ⊥
-  no_refusal refusal.Words cause = let e = told_session.1 in let n : None ≡ Some told_session.0 = sym cause ∙ e in cc
-  no_refusal (refusal.Grammar trouble) cause =
-      let c : IsStatusOf words (Some may.told.0) (BadGrammar trouble) = subst (λ o. IsStatusOf words o (BadGrammar trouble)) may.told.1 cause in
-      no_bad_grammar words may.told.0 told_session trouble (subst (λ (z : Setup). HasBadGrammar (Some may.told.0) z trouble) (one_setup words may.told.0 told_session c.0 c.1) c.2)
-  no_refusal (refusal.Lexicon trouble) cause =
-      let c : IsStatusOf words (Some may.told.0) (BadLexicon trouble) = subst (λ o. IsStatusOf words o (BadLexicon trouble)) may.told.1 cause in
-      no_bad_lexicon words may.told.0 told_session trouble (subst (λ (z : Setup). HasBadLexicon (Some may.told.0) z trouble) (one_setup words may.told.0 told_session c.0 c.1) c.3)
+  no_refusal : (r : Refusal) (text : List ℕ) → HasRefusal words files r text → ⊥
+  no_refusal refusal.Words text h = let e = told_session.1 in let n : None ≡ Some told_session.0 = sym h.0 ∙ e in cc
+  no_refusal (refusal.Grammar trouble) text h =
+      let c : HasRefusal words (Some may.told.0) (refusal.Grammar trouble) text = subst (λ o. HasRefusal words o (refusal.Grammar trouble) text) may.told.1 h in
+      no_bad_grammar words may.told.0 told_session trouble text (subst (λ (z : Setup). HasBadGrammar (Some may.told.0) z trouble text) (one_setup words may.told.0 told_session c.0 c.1) c.2)
+  no_refusal (refusal.Lexicon trouble) text h =
+      let c : HasRefusal words (Some may.told.0) (refusal.Lexicon trouble) text = subst (λ o. HasRefusal words o (refusal.Lexicon trouble) text) may.told.1 h in
+      no_bad_lexicon words may.told.0 told_session trouble text (subst (λ (z : Setup). HasBadLexicon (Some may.told.0) z trouble text) (one_setup words may.told.0 told_session c.0 c.1) c.3)
 
-  pub refused_not : (r : Refusal) (status : Status) (a b : Option (List ℕ)) → IsStatusOf words files (status_of r) → IsEndOf r status a b → (status ≡ WriteFault → ⊥) → (status ≡ Done) ⊎ (status ≡ Memory)
-  refused_not r status a b cause (inl is) write = absurd (no_refusal r cause)
-  refused_not r status a b cause (inr (inl is)) write = absurd (write is)
-  refused_not r status a b cause (inr (inr is)) write = inr is.0
+  pub refused_not : (r : Refusal) (text : List ℕ) (status : Status) (a b : Option (List ℕ)) → HasRefusal words files r text → IsEndOf r text status a b → (status ≡ WriteFault → ⊥) → (status ≡ Done) ⊎ (status ≡ Memory)
+  refused_not r text status a b h (inl is) write = absurd (no_refusal r text h)
+  refused_not r text status a b h (inr is) write = absurd (write is)
 
   pub done_or_memory : (a b : Option (List ℕ)) (status : Status) → IsSessionStatus status → (status ≡ ReadFault → ⊥) → (status ≡ WriteFault → ⊥)
       → IfSome files (λ f. IfSome left (λ input. Writes words f input status a b)) → (status ≡ Done) ⊎ (status ≡ Memory)

@@ -1,9 +1,9 @@
 -- What many proofs here name of the crates below and of the specs.
 pub use Rattle.patr_expand.specs.Seen.{cause_seen}
-pub use Rattle.patr_grammar.specs.Reading.{IsGrammar, IsText, fault_of}
+pub use Rattle.patr_grammar.specs.Reading.{IsGrammar, IsText}
 pub use Rattle.patr_io.specs.Causes.{HasCause, IsFlushed, Rose}
 pub use Rattle.patr_io.specs.Files.{Files, IsAbsent}
-pub use Rattle.patr_library.specs.Stored.{IsBuiltFrom, Stored, built_rules, entries_of, grammar_of, keys, number, rules_of}
+pub use Rattle.patr_library.specs.Stored.{IsBuiltFrom, Stored, built_rules, entries_of, grammar_of, keys, number, rules_of, same}
 pub use Rattle.patr_model.proofs.Canonical.{least_texts, same_is}
 pub use Rattle.patr_model.proofs.Lines.{replies_begin}
 pub use Rattle.patr_model.proofs.Maps.{some_inj}
@@ -22,7 +22,7 @@ pub use Rattle.patr_model.specs.Session.{AgreesWith, Cut, Grounds, IsQuit, IsSen
 pub use Rattle.patr_model.specs.Solved.{solved}
 pub use Rattle.patr_model.specs.Table.{IsTable}
 pub use Rattle.patr_shell.specs.Answering.{AreQuit, HasAnswered, HasBegun, HasBegunSession, HasEnded, HasFirstWord, HasNoFeed, HasQuit, HasReached, HasTakenQuit, HasTold, HasWrittenSession, IsAnswer, IsAnswerToCommand, IsAnswerToWords, is_write_fault, last_line, last_of, last_piece, too_long_line}
-pub use Rattle.patr_shell.specs.Outcome.{Builds, CannotLoad, HasAnsweredFirst, HasAnsweredTaken, HasBadGrammar, HasBadLexicon, HasBegunRun, HasGrammar, HasRun, HasRunSession, HasWritten, HaveSession, IsEndOf, IsFaultOf, IsOpened, IsSessionStatus, IsStatusOf, IsWithin, LooksAt, MayBeDone, Names, Writes, answer_status, ended_by_write, ending_of, grammar, is_definite, lexicon, refusal_line, status_of}
+pub use Rattle.patr_shell.specs.Outcome.{Builds, CannotLoad, HasAnsweredFirst, HasAnsweredTaken, HasBadGrammar, HasBadLexicon, HasBegunRun, HasGrammar, HasRefusal, HasRun, HasRunSession, HasWritten, HaveSession, IsEndOf, IsFaultOf, IsOpened, IsSessionStatus, IsStatusOf, IsWithin, LooksAt, MayBeDone, Names, Writes, answer_status, ended_by_write, ending_of, grammar, is_definite, lexicon, status_of}
 pub use Rattle.patr_shell.specs.Sent.{AppendsFront, IsSent, PassesOn}
 pub use Rattle.patr_shell.specs.Spoken.{HasLimit, Spoken, command_seen, grounds, state_seen}
 pub use Rattle.patr_shell.specs.Words.{flag_seen, other_kind, said_from, said_in_all, said_seen, said_then, setup_meant, setup_seen}

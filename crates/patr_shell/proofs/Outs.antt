@@ -1,10 +1,10 @@
 -- What a run writes, by its opening and its session.
 use Rattle.std.proofs.Common.{◌≡◌, ◌<◌, ◌≤◌, arith, ℕ, List, [], ◌++◌, Option, Some, None, IfSome, Bool, true, false, length, take, drop, refl, sym, ◌∙◌, ap, subst, inl, inr, append_assoc, append-nil, length-append, take-append-drop}
-use Rattle.patr_shell.proofs.Names.{Setup, Names, BuildFault, fault_ending, length-take, OnTrue, IsSomeAnd, get, Appends, Consumes, Files, solved, Numbering, AgreesWith, whole_lines_of, lines_of, IsTable, InGrammar, InLexicon, build_fault_line, lines_with_commands, Answered, built, lexicon_fault_line, fault_of, cause_seen, Status, Refusal, Spoken, grounds, state_seen, AppendsFront, HasNoFeed, HasWrittenSession, HasBegunSession, is_definite, ending_of, HaveSession, IsSessionStatus, IsStatusOf, status_of, refusal_line, IsOpened, IsEndOf, Builds, HasWritten, HasBegunRun, Writes, HasAnsweredFirst, HasAnsweredTaken, HasRunSession, HasRun}
+use Rattle.patr_shell.proofs.Names.{Setup, Names, BuildFault, fault_ending, length-take, OnTrue, IsSomeAnd, get, Appends, Consumes, Files, solved, Numbering, AgreesWith, whole_lines_of, lines_of, IsTable, InGrammar, InLexicon, build_fault_line, lines_with_commands, Answered, built, lexicon_fault_line, Status, Refusal, Spoken, grounds, state_seen, AppendsFront, HasNoFeed, HasWrittenSession, HasBegunSession, is_definite, ending_of, HaveSession, IsSessionStatus, HasRefusal, IsStatusOf, status_of, IsOpened, IsEndOf, Builds, HasWritten, HasBegunRun, Writes, HasAnsweredFirst, HasAnsweredTaken, HasRunSession, HasRun}
 use Rattle.patr_model.specs.Run as run
 use Rattle.patr_model.specs.Run.{Opening, Session, Refusal as Refuses, AfterWords, AfterGrammar, IsOpening, IsOut, Follows}
 use Rattle.patr_model.specs.GrammarText.{grammar_fault_line}
-use Rattle.patr_lexicon.specs.Reading.{fault_of as lexicon_fault_of}
+use Rattle.patr_lexicon.specs.Reading.{fault_of}
 use Rattle.patr_shell.specs.declared.state.State.{State}
 use Rattle.patr_shell.specs.declared.status.Status.TheVariants.{Done, ReadFault, WriteFault, Memory, InputTooLong}
 use Rattle.patr_shell.specs.declared.status.GrammarTrouble.TheVariants as grammar_trouble
@@ -22,7 +22,7 @@ long_file (Some bytes) most long = (bytes, refl, long)
 
 module _ (words : List (List ℕ)) (f : Files) where
   -- what the build refuses
-  refused_build : (N : Numbering) (setup : Setup) → Names words setup → (fault : BuildFault) → Builds (Some f) setup.grammar setup.lexicon (Some fault) → IsOpening built N words (get f) (Refuses (build_fault_line fault) (fault_ending fault))
+  refused_build : (N : Numbering) (setup : Setup) → Names words setup → (fault : BuildFault (List ℕ)) → Builds (Some f) setup.grammar setup.lexicon (Some fault) → IsOpening built N words (get f) (Refuses (build_fault_line fault) (fault_ending fault))
   refused_build N setup named fault b = inr (
     setup,
     named,
@@ -30,38 +30,44 @@ module _ (words : List (List ℕ)) (f : Files) where
         (AfterGrammar.refused b.lexicon_bytes b.entries b.lexicon_file b.lexicon_short b.reads_lexicon (build_fault_line fault) (fault_ending fault) (fault, b.is, refl, refl) refl),
   )
 
-  -- a refusal that has its cause is what the words and the files come to
-  refused : (N : Numbering) (r : Refusal) → IsStatusOf words (Some f) (status_of r) → IsOpening built N words (get f) (Refuses (refusal_line r) (ending_of (status_of r)))
-  refused N Words cause = inl (cause, refl)
-  refused N (Grammar grammar_trouble.TooLong) cause =
-      let file = long_file (get f cause.0.grammar) 4194304 cause.2 in
-      inr (cause.0, cause.1, AfterWords.long file.0 file.1 file.2 refl)
-  refused N (Grammar (grammar_trouble.Text why)) cause =
-      inr (cause.0, cause.1, AfterWords.fault cause.2.0 cause.2.1 cause.2.2 (grammar_fault_line (fault_of why)) (fault_of why, cause.2.3, refl) refl)
-  refused N (Grammar (grammar_trouble.Expand why)) cause = refused_build N cause.0 cause.1 (InGrammar (cause_seen why)) cause.2
-  refused N (Lexicon lexicon_trouble.TooLong) cause =
-      let file = long_file (get f cause.0.lexicon) 16777216 cause.3 in
-      inr (cause.0, cause.1, AfterWords.read cause.2.0 cause.2.1 cause.2.2 cause.2.3 cause.2.4 (AfterGrammar.long file.0 file.1 file.2 refl))
-  refused N (Lexicon (lexicon_trouble.Text why)) cause =
-      inr (
-        cause.0,
-        cause.1,
-        AfterWords.read cause.2.0 cause.2.1 cause.2.2 cause.2.3 cause.2.4
-            (AfterGrammar.fault cause.3.0 cause.3.1 cause.3.2 (lexicon_fault_line (lexicon_fault_of why)) (lexicon_fault_of why, cause.3.3, refl) refl),
-      )
-  refused N (Lexicon (lexicon_trouble.Expand why)) cause = refused_build N cause.0 cause.1 (InLexicon (cause_seen why)) cause.3
+  -- a refusal with its line is what the words and the files come to
+  refused : (N : Numbering) (r : Refusal) (text : List ℕ) → HasRefusal words (Some f) r text → IsOpening built N words (get f) (Refuses text (ending_of (status_of r)))
+  refused N r text h = by r h
+    where
+      told : (ending : run.Ending) (message : List ℕ) → text ≡ message → IsOpening built N words (get f) (Refuses message ending) → IsOpening built N words (get f) (Refuses text ending)
+      told ending message is = subst (λ m. IsOpening built N words (get f) (Refuses m ending)) (sym is)
 
-  refused_whole : (r : Refusal) → IsStatusOf words (Some f) (status_of r) → (input : List ℕ) (a b : Option (List ℕ)) → Appends a b (refusal_line r) → HasWritten words f input (status_of r) a b
-  refused_whole r cause input a b sent = record {
-    text = refusal_line r;
-    is_out = λ N. (Refuses (refusal_line r) (ending_of (status_of r)), refused N r cause, (refl, refl));
+      by : (r : Refusal) → HasRefusal words (Some f) r text → IsOpening built N words (get f) (Refuses text (ending_of (status_of r)))
+      by Words h = told _ _ h.1 (inl (h.0, refl))
+      by (Grammar grammar_trouble.TooLong) h =
+          let file = long_file (get f h.0.grammar) 4194304 h.2.0 in
+          told _ _ h.2.1 (inr (h.0, h.1, AfterWords.long file.0 file.1 file.2 refl))
+      by (Grammar (grammar_trouble.Text why)) h =
+          told _ _ h.2.6 (inr (h.0, h.1, AfterWords.fault h.2.0 h.2.2 h.2.3 (grammar_fault_line h.2.1) (h.2.1, h.2.4, refl) refl))
+      by (Grammar (grammar_trouble.Expand why)) h = told _ _ h.2.3 (refused_build N h.0 h.1 (InGrammar h.2.0) h.2.1)
+      by (Lexicon lexicon_trouble.TooLong) h =
+          let file = long_file (get f h.0.lexicon) 16777216 h.3.0 in
+          told _ _ h.3.1 (inr (h.0, h.1, AfterWords.read h.2.0 h.2.1 h.2.2 h.2.3 h.2.4 (AfterGrammar.long file.0 file.1 file.2 refl)))
+      by (Lexicon (lexicon_trouble.Text why)) h =
+          told _ _ h.3.4 (inr (
+            h.0,
+            h.1,
+            AfterWords.read h.2.0 h.2.1 h.2.2 h.2.3 h.2.4
+                (AfterGrammar.fault h.3.0 h.3.1 h.3.2 (lexicon_fault_line (fault_of why)) (fault_of why, h.3.3, refl) refl),
+          ))
+      by (Lexicon (lexicon_trouble.Expand why)) h = told _ _ h.3.3 (refused_build N h.0 h.1 (InLexicon h.3.0) h.3.1)
+
+  refused_whole : (r : Refusal) (text : List ℕ) → HasRefusal words (Some f) r text → (input : List ℕ) (a b : Option (List ℕ)) → Appends a b text → HasWritten words f input (status_of r) a b
+  refused_whole r text h input a b sent = record {
+    text = text;
+    is_out = λ N. (Refuses text (ending_of (status_of r)), refused N r text h, (refl, refl));
     appended = sent;
   }
 
-  refused_front : (r : Refusal) → IsStatusOf words (Some f) (status_of r) → (input : List ℕ) (a b : Option (List ℕ)) → AppendsFront a b (refusal_line r) → HasBegunRun words f input a b
-  refused_front r cause input a b front = λ N text ending out.
-      let same : out.0 ≡ Refuses (refusal_line r) (ending_of (status_of r)) = one_opening N words (get f) out.0 _ out.1 (refused N r cause) in
-      let follows : Follows built (Refuses (refusal_line r) (ending_of (status_of r))) input text ending = subst (λ (o : Opening). Follows built o input text ending) same out.2 in
+  refused_front : (r : Refusal) (text : List ℕ) → HasRefusal words (Some f) r text → (input : List ℕ) (a b : Option (List ℕ)) → AppendsFront a b text → HasBegunRun words f input a b
+  refused_front r text h input a b front = λ N out_text ending out.
+      let same : out.0 ≡ Refuses text (ending_of (status_of r)) = one_opening N words (get f) out.0 _ out.1 (refused N r text h) in
+      let follows : Follows built (Refuses text (ending_of (status_of r))) input out_text ending = subst (λ (o : Opening). Follows built o input out_text ending) same out.2 in
       subst (AppendsFront a b) (sym follows.0) front
 
   -- a session over what was opened
@@ -101,20 +107,19 @@ of_false false P is = tt
 abbrev Text : List (List ℕ) → Option Files → Option (List ℕ) → Option (List ℕ) → Option (List ℕ) → Status → Type 0
 Text words files left a b status = IfSome files (λ f. IfSome left (λ input. Writes words f input status a b))
 
-refused_at : (words : List (List ℕ)) (f : Files) (r : Refusal) → IsStatusOf words (Some f) (status_of r) → (input : List ℕ) (a b : Option (List ℕ)) (status : Status) → IsEndOf r status a b
+refused_at : (words : List (List ℕ)) (f : Files) (r : Refusal) (text : List ℕ) → HasRefusal words (Some f) r text → (input : List ℕ) (a b : Option (List ℕ)) (status : Status) → IsEndOf r text status a b
     → OnTrue (is_definite status) (HasWritten words f input status a b)
-refused_at words f r cause input a b status (inl is) =
-    of_true (is_definite status) (HasWritten words f input status a b) (subst (λ s. HasWritten words f input s a b) (sym is.0) (refused_whole words f r cause input a b is.1))
-refused_at words f r cause input a b status (inr (inl is)) = of_false (is_definite status) (HasWritten words f input status a b) (ap is_definite is)
-refused_at words f r cause input a b status (inr (inr is)) = of_false (is_definite status) (HasWritten words f input status a b) (ap is_definite is.0)
+refused_at words f r text h input a b status (inl is) =
+    of_true (is_definite status) (HasWritten words f input status a b) (subst (λ s. HasWritten words f input s a b) (sym is.0) (refused_whole words f r text h input a b is.1))
+refused_at words f r text h input a b status (inr is) = of_false (is_definite status) (HasWritten words f input status a b) (ap is_definite is)
 
-pub refused_text : (words : List (List ℕ)) (files : Option Files) (left a b : Option (List ℕ)) (r : Refusal) → IsStatusOf words files (status_of r) → (status : Status) → IsEndOf r status a b
-    → AppendsFront a b (refusal_line r) → Text words files left a b status
-refused_text words None left a b r cause status end front = tt
-refused_text words (Some f) None a b r cause status end front = tt
-refused_text words (Some f) (Some input) a b r cause status end front = record {
-  whole = refused_at words f r cause input a b status end;
-  front = refused_front words f r cause input a b front;
+pub refused_text : (words : List (List ℕ)) (files : Option Files) (left a b : Option (List ℕ)) (r : Refusal) (text : List ℕ) → HasRefusal words files r text → (status : Status) → IsEndOf r text status a b
+    → AppendsFront a b text → Text words files left a b status
+refused_text words None left a b r text h status end front = tt
+refused_text words (Some f) None a b r text h status end front = tt
+refused_text words (Some f) (Some input) a b r text h status end front = record {
+  whole = refused_at words f r text h input a b status end;
+  front = refused_front words f r text h input a b front;
 }
 
 pub session_text : (words : List (List ℕ)) (files : Option Files) (left a b : Option (List ℕ)) (spoken : Spoken) (st : State) → IfSome files (λ f. IsOpened words f spoken st) → IsTable spoken.texts
@@ -200,13 +205,26 @@ module _ (words : List (List ℕ)) (files : Option Files) (left now a b : Option
   session_run spoken st opened table _ is h = cc
 
 -- a refusal
-module _ (words : List (List ℕ)) (files : Option Files) (left a b : Option (List ℕ)) where
-  refused_run : (r : Refusal) → Appends a b (refusal_line r) → HasRun words files (status_of r) left left a b
-  refused_run Words sent = (refl, sent)
-  refused_run (Grammar trouble) sent = (refl, sent)
-  refused_run (Lexicon trouble) sent = (refl, sent)
+module _ (words : List (List ℕ)) (files : Option Files) (left a b : Option (List ℕ)) (r : Refusal) (text : List ℕ) (h : HasRefusal words files r text) where
+  refused_run : Appends a b text → HasRun words files (status_of r) left left a b
+  refused_run sent = by r h
+    where
+      by : (r : Refusal) → HasRefusal words files r text → HasRun words files (status_of r) left left a b
+      by Words h = (refl, text, h, sent)
+      by (Grammar trouble) h = (refl, text, h, sent)
+      by (Lexicon trouble) h = (refl, text, h, sent)
 
-  pub refusal_run : (r : Refusal) (status : Status) → IsEndOf r status a b → HasRun words files status left left a b
-  refusal_run r status (inl is) = subst (λ s. HasRun words files s left left a b) (sym is.0) (refused_run r is.1)
-  refusal_run r status (inr (inl is)) = subst (λ s. HasRun words files s left left a b) (sym is) tt
-  refusal_run r status (inr (inr is)) = subst (λ s. HasRun words files s left left a b) (sym is.0) (inl (refl, is.1))
+  pub refusal_run : (status : Status) → IsEndOf r text status a b → HasRun words files status left left a b
+  refusal_run status (inl is) = subst (λ s. HasRun words files s left left a b) (sym is.0) (refused_run is.1)
+  refusal_run status (inr is) = subst (λ s. HasRun words files s left left a b) (sym is) tt
+
+-- it is stated by the status
+module _ (words : List (List ℕ)) (files : Option Files) (a b : Option (List ℕ)) (r : Refusal) (text : List ℕ) (h : HasRefusal words files r text) where
+  stated : (r : Refusal) → HasRefusal words files r text → IsStatusOf words files (status_of r)
+  stated Words h = h.0
+  stated (Grammar trouble) h = (text, h)
+  stated (Lexicon trouble) h = (text, h)
+
+  pub refusal_cause : (status : Status) → IsEndOf r text status a b → IsStatusOf words files status
+  refusal_cause status (inl is) = subst (IsStatusOf words files) (sym is.0) (stated r h)
+  refusal_cause status (inr is) = subst (IsStatusOf words files) (sym is) tt

@@ -1,14 +1,16 @@
 -- What the two files of a run are read as, and what is built from them.
-use Rattle.std.specs.Prelude.{◌≡◌, ◌⊎◌, ◌≤◌, ℕ, List, length, Option, Some}
+use Rattle.std.specs.Prelude.{◌≡◌, ◌⊎◌, ◌≤◌, ℕ, List, length, Option, Some, codes, string_bytes}
 use Rattle.patr_io.specs.Files.{Files, HasFile}
 use Rattle.patr_model.specs.Build as model
-use Rattle.patr_model.specs.Build.{build_fault}
-use Rattle.patr_grammar.specs.Reading.{StandsFor}
+use Rattle.patr_model.specs.Agreeing.{SameExpandFault}
+use Rattle.patr_model.specs.Build.{ExpandFault, build_fault, expand_fault_line}
+use Rattle.patr_grammar.specs.Reading.{IsText, StandsFor}
 use Rattle.patr_grammar.specs.declared.grammar.Grammar.{Grammar as GrammarText}
 use Rattle.patr_lexicon.specs.Reading.{StandsFor as StandForEntries}
 use Rattle.patr_lexicon.specs.declared.lexicon.Entry.{Entry}
+use Rattle.patr_expand.specs.declared.cause.ExpandCause.{ExpandCause}
 use Rattle.patr_expand.specs.Seen.{cause_seen}
-use Rattle.patr_library.specs.Stored.{grammar_of, entries_of, IsBuiltFrom}
+use Rattle.patr_library.specs.Stored.{grammar_of, entries_of, same, IsBuiltFrom}
 use Rattle.patr_shell.specs.Spoken.{Spoken}
 use Rattle.patr_shell.specs.Outcome.{IsNoGrammar, IsNoLexicon}
 use Rattle.patr_shell.specs.declared.status.GrammarTrouble.TheVariants as grammar_trouble
@@ -34,7 +36,7 @@ ReadsGrammar files name table grammar = IsReadFrom files name 4194304 StandsFor 
 
 -- the file of this name was not read as a grammar
 abbrev pub IsGrammarFault : Option Files → List ℕ → OpeningFault → Type 0
-IsGrammarFault files name (Refused (Grammar trouble)) = IsNoGrammar files name trouble
+IsGrammarFault files name (Refused (Grammar trouble) told) = IsNoGrammar files name trouble (string_bytes told)
 IsGrammarFault files name fault = IsLoadFault fault
 
 -- the file of this name was read as these entries, by the table
@@ -43,7 +45,7 @@ ReadsLexicon files name table entries = IsReadFrom files name 16777216 StandForE
 
 -- the file of this name was not read as a lexicon
 abbrev pub IsLexiconFault : Option Files → List ℕ → OpeningFault → Type 0
-IsLexiconFault files name (Refused (Lexicon trouble)) = IsNoLexicon files name trouble
+IsLexiconFault files name (Refused (Lexicon trouble) told) = IsNoLexicon files name trouble (string_bytes told)
 IsLexiconFault files name fault = IsLoadFault fault
 
 -- the language has these symbols, and the library of the grammar and the entries
@@ -51,8 +53,14 @@ pub record IsBuiltOf (table : List (List ℕ)) (g : GrammarText) (l : List Entry
   pub texts : s.texts ≡ table
   pub library : IsBuiltFrom g l s.library
 
--- the build refuses a rule or an entry, or memory was short
-abbrev pub IsBuildFault : GrammarText → List Entry → OpeningFault → Type 0
-IsBuildFault g l (Refused (Grammar (grammar_trouble.Expand c))) = build_fault (grammar_of g) (entries_of l) ≡ Some (model.InGrammar (cause_seen c))
-IsBuildFault g l (Refused (Lexicon (lexicon_trouble.Expand c))) = build_fault (grammar_of g) (entries_of l) ≡ Some (model.InLexicon (cause_seen c))
-IsBuildFault g l fault = fault ≡ Memory
+-- the cause is this fault by the table, and this line tells it of a file
+abbrev pub IsToldOf : List (List ℕ) → List ℕ → ExpandCause → ExpandFault (List ℕ) → List ℕ → Type 0
+IsToldOf table file cause f text = SameExpandFault (IsText table) (cause_seen cause) f × (text ≡ expand_fault_line file f)
+
+-- the build refuses a template, a rule or an entry, which a line tells by the table, or memory was short
+abbrev pub IsBuildFault : List (List ℕ) → GrammarText → List Entry → OpeningFault → Type 0
+IsBuildFault table g l (Refused (Grammar (grammar_trouble.Expand c)) told) =
+    (build_fault same (grammar_of g) (entries_of l) ≡ Some (model.InGrammar (cause_seen c))) × (f : ExpandFault (List ℕ)) × IsToldOf table (codes "grammar") c f (string_bytes told)
+IsBuildFault table g l (Refused (Lexicon (lexicon_trouble.Expand c)) told) =
+    (build_fault same (grammar_of g) (entries_of l) ≡ Some (model.InLexicon (cause_seen c))) × (f : ExpandFault (List ℕ)) × IsToldOf table (codes "lexicon") c f (string_bytes told)
+IsBuildFault table g l fault = fault ≡ Memory

@@ -1,5 +1,5 @@
 -- What a run writes, how it ends, and why.
-use Rattle.std.specs.Prelude.{◌≡◌, ◌⊎◌, ◌≤◌, ◌^◌, ℕ, List, [], ◌++◌, length, take, Bool, true, false, Option, Some, None, IfSome, Result, Err, ⊤, codes}
+use Rattle.std.specs.Prelude.{◌≡◌, ◌⊎◌, ◌≤◌, ◌^◌, ℕ, List, [], ◌++◌, length, take, Bool, true, false, Option, Some, None, IfSome, Result, Err, ⊤, codes, string_bytes}
 use Rattle.std.specs.Bool.{OnTrue, OnFalse}
 use Rattle.std.specs.FinMap.{get}
 use Rattle.std.specs.Io.KnownBytes.{Appends, Consumes, IsAtEnd}
@@ -8,13 +8,17 @@ use Rattle.patr_io.specs.Files.{Files, HasFile, HasLongFile, IsAbsent}
 use Rattle.patr_model.specs.Session.{Numbering, AgreesWith, line, whole_lines_of}
 use Rattle.patr_model.specs.Run.{Ending, Done as IsDone, BadWords as AreBadWords, BadGrammar as IsBadGrammar, BadLexicon as IsBadLexicon, NotRead, InputTooLong as IsInputTooLong, Setup, Session, usage, IsOpening, IsOut}
 use Rattle.patr_model.specs.Productions.{Grammar}
-use Rattle.patr_model.specs.GrammarText.{ReadsGrammar, RefusesGrammar, grammar_fault_line}
+use Rattle.patr_model.specs.GrammarText.{GrammarFault, ReadsGrammar, RefusesGrammar, grammar_fault_line}
 use Rattle.patr_model.specs.LexiconText.{EntryText, ReadsLexicon, RefusesLexicon, lexicon_fault_line}
 use Rattle.patr_model.specs.CommandLine.{command_words}
-use Rattle.patr_model.specs.Build.{BuildFault, InGrammar, InLexicon, build_fault, size_fault_line}
+use Rattle.patr_model.specs.Bytes.{same_text}
+use Rattle.patr_model.specs.Agreeing.{SameExpandFault}
+use Rattle.patr_model.specs.Build.{BuildFault, ExpandFault, InGrammar, InLexicon, build_fault, expand_fault_line}
 use Rattle.patr_model.specs.Built.{stage, built}
-use Rattle.patr_grammar.specs.Reading.{fault_of}
-use Rattle.patr_lexicon.specs.Reading.{fault_of as lexicon_fault_of}
+use Rattle.patr_grammar.specs.declared.grammar.GrammarCause.{GrammarCause}
+use Rattle.patr_grammar.specs.Reading.{IsFault, IsText}
+use Rattle.patr_lexicon.specs.Reading.{fault_of}
+use Rattle.patr_expand.specs.declared.cause.ExpandCause.{ExpandCause}
 use Rattle.patr_expand.specs.Seen.{cause_seen}
 use Rattle.patr_shell.specs.Spoken.{Spoken, grounds, state_seen}
 use Rattle.patr_shell.specs.Sent.{AppendsFront, EndsWith}
@@ -110,7 +114,7 @@ abbrev pub HasLexicon : Option Files → List ℕ → Type 0
 HasLexicon files name = (bytes : List ℕ) × (entries : List EntryText) × HasFile files name bytes × (length bytes ≤ 16777216) × ReadsLexicon stage bytes entries
 
 -- the files of these names stand for a grammar and a lexicon of which the build refuses this, or nothing
-pub record Builds (files : Option Files) (grammar lexicon : List ℕ) (fault : Option BuildFault) : Type 0 where
+pub record Builds (files : Option Files) (grammar lexicon : List ℕ) (fault : Option (BuildFault (List ℕ))) : Type 0 where
   pub grammar_bytes : List ℕ
   pub rules : Grammar (List ℕ)
   pub grammar_file : HasFile files grammar grammar_bytes
@@ -121,29 +125,41 @@ pub record Builds (files : Option Files) (grammar lexicon : List ℕ) (fault : O
   pub lexicon_file : HasFile files lexicon lexicon_bytes
   pub lexicon_short : length lexicon_bytes ≤ 16777216
   pub reads_lexicon : ReadsLexicon stage lexicon_bytes entries
-  pub is : build_fault rules entries ≡ fault
+  pub is : build_fault same_text rules entries ≡ fault
 
--- the file of this name stands for no grammar, and why
-abbrev pub IsNoGrammar : Option Files → List ℕ → GrammarTrouble → Type 0
-IsNoGrammar files name grammar_trouble.TooLong = HasLongFile files name 4194304
-IsNoGrammar files name (grammar_trouble.Text cause) = (bytes : List ℕ) × HasFile files name bytes × (length bytes ≤ 4194304) × RefusesGrammar stage bytes (fault_of cause)
-IsNoGrammar files name (grammar_trouble.Expand cause) = ⊥
+-- the cause is this fault of the grammar's text, the name in it by some table
+abbrev pub IsGrammarCause : GrammarCause → GrammarFault → Type 0
+IsGrammarCause cause f = (table : List (List ℕ)) × IsFault table cause f
 
--- the file of this name stands for no lexicon, and why
-abbrev pub IsNoLexicon : Option Files → List ℕ → LexiconTrouble → Type 0
-IsNoLexicon files name lexicon_trouble.TooLong = HasLongFile files name 16777216
-IsNoLexicon files name (lexicon_trouble.Text cause) = (bytes : List ℕ) × HasFile files name bytes × (length bytes ≤ 16777216) × RefusesLexicon stage bytes (lexicon_fault_of cause)
-IsNoLexicon files name (lexicon_trouble.Expand cause) = ⊥
+-- the cause is this fault of a build, the name in it by some table
+abbrev pub IsExpandCause : ExpandCause → ExpandFault (List ℕ) → Type 0
+IsExpandCause cause f = (table : List (List ℕ)) × SameExpandFault (IsText table) (cause_seen cause) f
 
--- the grammar's file stands for none, or the build refuses a rule, and why
-abbrev pub HasBadGrammar : Option Files → Setup → GrammarTrouble → Type 0
-HasBadGrammar files setup (grammar_trouble.Expand cause) = Builds files setup.grammar setup.lexicon (Some (InGrammar (cause_seen cause)))
-HasBadGrammar files setup trouble = IsNoGrammar files setup.grammar trouble
+-- the file of this name stands for no grammar, why, and the line that tells it
+abbrev pub IsNoGrammar : Option Files → List ℕ → GrammarTrouble → List ℕ → Type 0
+IsNoGrammar files name grammar_trouble.TooLong text = HasLongFile files name 4194304 × (text ≡ line (codes "error: grammar: more than 4194304 bytes"))
+IsNoGrammar files name (grammar_trouble.Text cause) text =
+    (bytes : List ℕ) × (f : GrammarFault) × HasFile files name bytes × (length bytes ≤ 4194304) × RefusesGrammar stage bytes f × IsGrammarCause cause f × (text ≡ grammar_fault_line f)
+IsNoGrammar files name (grammar_trouble.Expand cause) text = ⊥
 
--- the lexicon's file stands for none, or the build refuses an entry, and why
-abbrev pub HasBadLexicon : Option Files → Setup → LexiconTrouble → Type 0
-HasBadLexicon files setup (lexicon_trouble.Expand cause) = Builds files setup.grammar setup.lexicon (Some (InLexicon (cause_seen cause)))
-HasBadLexicon files setup trouble = IsNoLexicon files setup.lexicon trouble
+-- the file of this name stands for no lexicon, why, and the line that tells it
+abbrev pub IsNoLexicon : Option Files → List ℕ → LexiconTrouble → List ℕ → Type 0
+IsNoLexicon files name lexicon_trouble.TooLong text = HasLongFile files name 16777216 × (text ≡ line (codes "error: lexicon: more than 16777216 bytes"))
+IsNoLexicon files name (lexicon_trouble.Text cause) text =
+    (bytes : List ℕ) × HasFile files name bytes × (length bytes ≤ 16777216) × RefusesLexicon stage bytes (fault_of cause) × (text ≡ lexicon_fault_line (fault_of cause))
+IsNoLexicon files name (lexicon_trouble.Expand cause) text = ⊥
+
+-- the grammar's file stands for none, or the build refuses a template or a rule; why, and the line that tells it
+abbrev pub HasBadGrammar : Option Files → Setup → GrammarTrouble → List ℕ → Type 0
+HasBadGrammar files setup (grammar_trouble.Expand cause) text =
+    (f : ExpandFault (List ℕ)) × Builds files setup.grammar setup.lexicon (Some (InGrammar f)) × IsExpandCause cause f × (text ≡ expand_fault_line (codes "grammar") f)
+HasBadGrammar files setup trouble text = IsNoGrammar files setup.grammar trouble text
+
+-- the lexicon's file stands for none, or the build refuses an entry; why, and the line that tells it
+abbrev pub HasBadLexicon : Option Files → Setup → LexiconTrouble → List ℕ → Type 0
+HasBadLexicon files setup (lexicon_trouble.Expand cause) text =
+    (f : ExpandFault (List ℕ)) × Builds files setup.grammar setup.lexicon (Some (InLexicon f)) × IsExpandCause cause f × (text ≡ expand_fault_line (codes "lexicon") f)
+HasBadLexicon files setup trouble text = IsNoLexicon files setup.lexicon trouble text
 
 -- the words are of the form, and this is meant
 abbrev pub Names : List (List ℕ) → Setup → Type 0
@@ -166,13 +182,19 @@ IsOpened words files spoken st = (N : Numbering) → AgreesWith N spoken.texts �
 abbrev pub HaveSession : List (List ℕ) → Option Files → Type 0
 HaveSession words files = (setup : Setup) × Names words setup × Builds files setup.grammar setup.lexicon None
 
+-- the words or a file are refused so, and this line tells it
+abbrev pub HasRefusal : List (List ℕ) → Option Files → Refusal → List ℕ → Type 0
+HasRefusal words files refusal.Words text = (command_words words ≡ None) × (text ≡ usage)
+HasRefusal words files (refusal.Grammar trouble) text = (setup : Setup) × Names words setup × HasBadGrammar files setup trouble text
+HasRefusal words files (refusal.Lexicon trouble) text = (setup : Setup) × Names words setup × HasGrammar files setup.grammar × HasBadLexicon files setup trouble text
+
 -- A status has its cause: for BadWords the words are not of the form, for every other but want of memory and a fault of writing they are,
 -- for a refusal the file has the trouble that the status carries, and a session has both files.
 abbrev pub IsStatusOf : List (List ℕ) → Option Files → Status → Type 0
 IsStatusOf words files Done = HaveSession words files
 IsStatusOf words files BadWords = command_words words ≡ None
-IsStatusOf words files (BadGrammar trouble) = (setup : Setup) × Names words setup × HasBadGrammar files setup trouble
-IsStatusOf words files (BadLexicon trouble) = (setup : Setup) × Names words setup × HasGrammar files setup.grammar × HasBadLexicon files setup trouble
+IsStatusOf words files (BadGrammar trouble) = (text : List ℕ) × HasRefusal words files (refusal.Grammar trouble) text
+IsStatusOf words files (BadLexicon trouble) = (text : List ℕ) × HasRefusal words files (refusal.Lexicon trouble) text
 IsStatusOf words files ReadFault = (setup : Setup) × Names words setup
 IsStatusOf words files WriteFault = ⊤
 IsStatusOf words files Memory = ⊤
@@ -186,7 +208,7 @@ status_of (refusal.Lexicon trouble) = BadLexicon trouble
 
 -- the opening fails for its cause
 abbrev pub IsFaultOf : List (List ℕ) → Option Files → OpeningFault → Type 0
-IsFaultOf words files (fault.Refused r) = IsStatusOf words files (status_of r)
+IsFaultOf words files (fault.Refused r told) = HasRefusal words files r (string_bytes told)
 IsFaultOf words files fault.Read = IsStatusOf words files ReadFault
 IsFaultOf words files fault.Memory = ⊤
 
@@ -195,23 +217,9 @@ abbrev pub is_read_fault : {T : Type 0} → Result T OpeningFault → Bool
 is_read_fault (Err fault.Read) = true
 is_read_fault result = false
 
--- the line that refuses the words or a file
-abbrev pub refusal_line : Refusal → List ℕ
-refusal_line refusal.Words = usage
-refusal_line (refusal.Grammar grammar_trouble.TooLong) = line (codes "error: grammar: more than 4194304 bytes")
-refusal_line (refusal.Grammar (grammar_trouble.Text cause)) = grammar_fault_line (fault_of cause)
-refusal_line (refusal.Grammar (grammar_trouble.Expand cause)) = size_fault_line (codes "grammar") (cause_seen cause)
-refusal_line (refusal.Lexicon lexicon_trouble.TooLong) = line (codes "error: lexicon: more than 16777216 bytes")
-refusal_line (refusal.Lexicon (lexicon_trouble.Text cause)) = lexicon_fault_line (lexicon_fault_of cause)
-refusal_line (refusal.Lexicon (lexicon_trouble.Expand cause)) = size_fault_line (codes "lexicon") (cause_seen cause)
-
--- how a run ends whose refusal is to be written: by it, with its line written, or by a write that failed, or by want of
--- memory with nothing written
-abbrev pub IsEndOf : Refusal → Status → Option (List ℕ) → Option (List ℕ) → Type 0
-IsEndOf r status old new =
-    ((status ≡ status_of r) × Appends old new (refusal_line r))
-    ⊎ (status ≡ WriteFault)
-    ⊎ ((status ≡ Memory) × (new ≡ old))
+-- how a run ends whose refusal is to be written: by it, with its line written, or by a write that failed
+abbrev pub IsEndOf : Refusal → List ℕ → Status → Option (List ℕ) → Option (List ℕ) → Type 0
+IsEndOf r text status old new = ((status ≡ status_of r) × Appends old new text) ⊎ (status ≡ WriteFault)
 
 -- ---- what a run writes
 
@@ -248,18 +256,18 @@ pub record HasAnsweredTaken (words : List (List ℕ)) (files : Files) (left left
 abbrev pub IsUntouched : Option (List ℕ) → Option (List ℕ) → Option (List ℕ) → Option (List ℕ) → Type 0
 IsUntouched left left' old new = (left' ≡ left) × (new ≡ old)
 
--- nothing was taken, and the line of this refusal is all that was written
-abbrev pub IsRefused : Refusal → Option (List ℕ) → Option (List ℕ) → Option (List ℕ) → Option (List ℕ) → Type 0
-IsRefused r left left' old new = (left' ≡ left) × Appends old new (refusal_line r)
+-- nothing was taken, and the line that tells this refusal is all that was written
+abbrev pub IsRefused : List (List ℕ) → Option Files → Refusal → Option (List ℕ) → Option (List ℕ) → Option (List ℕ) → Option (List ℕ) → Type 0
+IsRefused words files r left left' old new = (left' ≡ left) × (text : List ℕ) × HasRefusal words files r text × Appends old new text
 
 -- What a run with this status has taken of the input and written, told or not: a refusal's line is the last, and before
 -- a session it is all; after a read that failed each line whose end was taken is answered, and after want of memory
 -- the first of them, no line in part.
 abbrev pub HasRun : List (List ℕ) → Option Files → Status → Option (List ℕ) → Option (List ℕ) → Option (List ℕ) → Option (List ℕ) → Type 0
 HasRun words files Done left left' old new = IsAtEnd left' ⊎ HasTakenQuit left left'
-HasRun words files BadWords left left' old new = IsRefused refusal.Words left left' old new
-HasRun words files (BadGrammar trouble) left left' old new = IsRefused (refusal.Grammar trouble) left left' old new
-HasRun words files (BadLexicon trouble) left left' old new = IsRefused (refusal.Lexicon trouble) left left' old new
+HasRun words files BadWords left left' old new = IsRefused words files refusal.Words left left' old new
+HasRun words files (BadGrammar trouble) left left' old new = IsRefused words files (refusal.Grammar trouble) left left' old new
+HasRun words files (BadLexicon trouble) left left' old new = IsRefused words files (refusal.Lexicon trouble) left left' old new
 HasRun words files ReadFault left left' old new = IsUntouched left left' old new ⊎ IfSome files (λ f. HasAnsweredTaken words f left left' old new)
 HasRun words files WriteFault left left' old new = ⊤
 HasRun words files Memory left left' old new = IsUntouched left left' old new ⊎ IfSome files (λ f. HasAnsweredFirst words f left left' old new)

@@ -17,6 +17,11 @@ pub struct Language {
 
 impl Model for Language {
     ghost use Rattle.patr_shell.specs.Spoken.{Spoken, HasSymbols};
+    ghost use Rattle.std.specs.Coded.{codes};
+    ghost use Rattle.patr_grammar.specs.contracts.grammar.Item as item;
+    ghost use Rattle.patr_grammar.specs.contracts.grammar.Element as element;
+
+    ghost coded = { Prim.hlevel (codes, item.the_row.coded, element.the_row.coded) };
 
     ghost Value = { Spoken };
 

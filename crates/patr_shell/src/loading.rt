@@ -6,7 +6,9 @@ ghost use Rattle.patr_text.specs.Texts.{Extends};
 ghost use Rattle.patr_shell.specs.Outcome.{CannotLoad, is_read_fault};
 ghost use Rattle.patr_shell.specs.Loaded.{IsLoadFault, ReadsGrammar, IsGrammarFault, ReadsLexicon, IsLexiconFault};
 
-use crate::refusal::{OpeningFault, Refusal};
+use crate::refusal::{
+    LONG_GRAMMAR, LONG_LEXICON, OpeningFault, Refusal, grammar_line, lexicon_line,
+};
 use crate::{GrammarTrouble, LexiconTrouble};
 use patr_grammar::{Grammar, read_grammar};
 use patr_io::{Shelf, ShelfFault};
@@ -65,14 +67,17 @@ pub fn load_grammar<F: Shelf>(
     ensures well { OnFalse (is_read_fault result) (F.faults shelf.new ≡ F.faults shelf.old) }
 {
     let Some(bytes) = load(alloc, shelf, name, MAX_GRAMMAR)? else {
-        return Err(OpeningFault::Refused(Refusal::Grammar(GrammarTrouble::TooLong)));
+        let line = String::from_str(alloc, LONG_GRAMMAR)?;
+        return Err(OpeningFault::Refused(Refusal::Grammar(GrammarTrouble::TooLong), line));
     };
     match read_grammar(alloc, symbols, &bytes) {
         Ok(grammar) => Ok(grammar),
         Err(Fault::Memory) => Err(OpeningFault::Memory),
-        Err(Fault::Refused(cause)) => Err(OpeningFault::Refused(Refusal::Grammar(
-            GrammarTrouble::Text(cause),
-        ))),
+        Err(Fault::Refused(cause)) => {
+            let line = grammar_line(alloc, symbols, cause)?;
+            let refusal = Refusal::Grammar(GrammarTrouble::Text(cause));
+            Err(OpeningFault::Refused(refusal, line))
+        }
     }
 }
 
@@ -94,13 +99,16 @@ pub fn load_lexicon<F: Shelf>(
     ensures well { OnFalse (is_read_fault result) (F.faults shelf.new ≡ F.faults shelf.old) }
 {
     let Some(bytes) = load(alloc, shelf, name, MAX_LEXICON)? else {
-        return Err(OpeningFault::Refused(Refusal::Lexicon(LexiconTrouble::TooLong)));
+        let line = String::from_str(alloc, LONG_LEXICON)?;
+        return Err(OpeningFault::Refused(Refusal::Lexicon(LexiconTrouble::TooLong), line));
     };
     match read_lexicon(alloc, symbols, &bytes) {
         Ok(lexicon) => Ok(lexicon),
         Err(Fault::Memory) => Err(OpeningFault::Memory),
-        Err(Fault::Refused(cause)) => Err(OpeningFault::Refused(Refusal::Lexicon(
-            LexiconTrouble::Text(cause),
-        ))),
+        Err(Fault::Refused(cause)) => {
+            let line = lexicon_line(alloc, cause)?;
+            let refusal = Refusal::Lexicon(LexiconTrouble::Text(cause));
+            Err(OpeningFault::Refused(refusal, line))
+        }
     }
 }

@@ -2,10 +2,8 @@
 ghost use Rattle.std.specs.Prelude.{◌≡◌, ℕ, List, map, string_bytes, IfOk, IfErr, IfSome};
 ghost use Rattle.std.specs.Bool.{OnFalse};
 ghost use Rattle.patr_model.specs.Table.{IsTable};
-ghost use Rattle.patr_model.specs.Productions as production;
-ghost use Rattle.patr_model.specs.LexiconText.{EntryText};
-ghost use Rattle.patr_grammar.specs.Reading.{IsGrammar};
-ghost use Rattle.patr_lexicon.specs.Reading.{AreEntriesOf};
+ghost use Rattle.patr_grammar.specs.Reading.{StandsFor};
+ghost use Rattle.patr_lexicon.specs.Reading.{StandsFor as StandForEntries};
 ghost use Rattle.patr_shell.specs.Spoken.{HasLimit};
 ghost use Rattle.patr_shell.specs.Loaded.{IsBuiltOf, IsBuildFault};
 ghost use Rattle.patr_shell.specs.Outcome.{IsOpened, HaveSession, IsFaultOf, LooksAt, CannotLoad, is_read_fault};
@@ -13,7 +11,7 @@ ghost use Rattle.patr_shell.specs.Outcome.{IsOpened, HaveSession, IsFaultOf, Loo
 use crate::command_line::read_setup;
 use crate::language::Language;
 use crate::loading::{load_grammar, load_lexicon};
-use crate::refusal::{OpeningFault, Refusal};
+use crate::refusal::{OpeningFault, Refusal, USAGE, expand_line};
 use crate::state::State;
 use crate::{GrammarTrouble, LexiconTrouble};
 use patr_grammar::Grammar;
@@ -37,22 +35,27 @@ fn build(
     grammar: Grammar,
     lexicon: Lexicon,
 ) -> Result<Language, OpeningFault>
-    requires grammar { (text : production.Grammar (List ℕ)) × IsGrammar symbols grammar text }
-    requires lexicon { (texts : List EntryText) × AreEntriesOf symbols lexicon texts }
+    requires grammar { (bytes : List ℕ) × StandsFor symbols bytes grammar }
+    requires lexicon { (bytes : List ℕ) × StandForEntries symbols bytes lexicon }
+    requires table { IsTable symbols }
     ensures built { IfOk result (λ l. IsBuiltOf symbols grammar lexicon l) }
-    ensures fault { IfErr result (λ fault. IsBuildFault grammar lexicon fault) }
+    ensures fault { IfErr result (λ fault. IsBuildFault symbols grammar lexicon fault) }
 {
     // The table has the texts that each begins with: `len` says so.
     symbols.len();
     match Library::build(alloc, grammar, lexicon) {
         Ok(library) => Ok(Language::new(symbols, library)),
         Err(BuildFault::Memory) => Err(OpeningFault::Memory),
-        Err(BuildFault::InGrammar(cause)) => Err(OpeningFault::Refused(Refusal::Grammar(
-            GrammarTrouble::Expand(cause),
-        ))),
-        Err(BuildFault::InLexicon(cause)) => Err(OpeningFault::Refused(Refusal::Lexicon(
-            LexiconTrouble::Expand(cause),
-        ))),
+        Err(BuildFault::InGrammar(cause)) => {
+            let line = expand_line(alloc, &symbols, "grammar", cause)?;
+            let refusal = Refusal::Grammar(GrammarTrouble::Expand(cause));
+            Err(OpeningFault::Refused(refusal, line))
+        }
+        Err(BuildFault::InLexicon(cause)) => {
+            let line = expand_line(alloc, &symbols, "lexicon", cause)?;
+            let refusal = Refusal::Lexicon(LexiconTrouble::Expand(cause));
+            Err(OpeningFault::Refused(refusal, line))
+        }
     }
 }
 
@@ -77,7 +80,8 @@ pub fn open<F: Shelf>(
     ensures well { OnFalse (is_read_fault result) (F.faults shelf.new ≡ F.faults shelf.old) }
 {
     let Some(setup) = read_setup(alloc, words)? else {
-        return Err(OpeningFault::Refused(Refusal::Words));
+        let line = String::from_str(alloc, USAGE)?;
+        return Err(OpeningFault::Refused(Refusal::Words, line));
     };
     let mut symbols = Symbols::new(alloc)?;
     let grammar = load_grammar(alloc, shelf, setup.grammar, &mut symbols)?;

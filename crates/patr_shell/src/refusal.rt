@@ -1,26 +1,28 @@
 //! Why a run ends before its session.
-ghost use Rattle.std.specs.Prelude.{◌≡◌, [], ◌∷◌, ◌++◌, IfOk, codes, decimal, string_bytes};
+ghost use Rattle.std.specs.Prelude.{◌≡◌, ℕ, List, [], ◌∷◌, ◌++◌, IfOk, codes, decimal, string_bytes};
 ghost use Rattle.patr_model.specs.Faults.{of_file, at_line, at_place};
-ghost use Rattle.patr_model.specs.Build.{TooManyEquations, size_fault_line};
+ghost use Rattle.patr_model.specs.Agreeing.{SameExpandFault};
+ghost use Rattle.patr_model.specs.Build.{ExpandFault, expand_fault_line};
 ghost use Rattle.patr_expand.specs.Seen.{cause_seen};
-ghost use Rattle.patr_model.specs.GrammarText.{grammar_fault_line, what_text};
+ghost use Rattle.patr_model.specs.GrammarText.{GrammarFault, grammar_fault_line, what_text};
 ghost use Rattle.patr_model.specs.LexiconText.{lexicon_fault_line};
-ghost use Rattle.patr_grammar.specs.Reading.{fault_of};
-ghost use Rattle.patr_lexicon.specs.Reading.{fault_of as lexicon_fault_of};
-ghost use Rattle.patr_shell.specs.Outcome.{refusal_line, status_of};
+ghost use Rattle.patr_grammar.specs.Reading.{IsFault, IsText};
+ghost use Rattle.patr_lexicon.specs.Reading.{fault_of};
+ghost use Rattle.patr_shell.specs.Outcome.{status_of};
 ghost use Rattle.patr_shell.specs.declared.refusal.OpeningFault.TheVariants.{Memory as OutOfMemory};
 
 use crate::{GrammarTrouble, LexiconTrouble, Memory, Status};
 use patr_expand::ExpandCause;
 use patr_grammar::{GrammarCause, What, expected_text};
 use patr_lexicon::LexiconCause;
+use patr_text::{Id, Symbols};
 use std::alloc::{AllocError, Global};
 
-const USAGE: &str = "usage: patr GRAMMAR LEXICON [--workers N] [--limit N]\n";
+pub(crate) const USAGE: &str = "usage: patr GRAMMAR LEXICON [--workers N] [--limit N]\n";
 
-const LONG_GRAMMAR: &str = "error: grammar: more than 4194304 bytes\n";
+pub(crate) const LONG_GRAMMAR: &str = "error: grammar: more than 4194304 bytes\n";
 
-const LONG_LEXICON: &str = "error: lexicon: more than 16777216 bytes\n";
+pub(crate) const LONG_LEXICON: &str = "error: lexicon: more than 16777216 bytes\n";
 
 /// What is refused before a session, and why.
 #[derive(Clone, Copy, Debug, PartialEq, Eq)]
@@ -43,9 +45,10 @@ impl From<Refusal> for Status {
 }
 
 /// Why a run ends before its session.
-#[derive(Clone, Copy, Debug, PartialEq, Eq)]
+#[derive(Debug, Drop)]
 pub enum OpeningFault {
-    Refused(Refusal),
+    /// The words or a file are refused, and the line that tells why, with its LF.
+    Refused(Refusal, String),
     /// The shelf failed, or has no file of this name.
     Read,
     Memory,
@@ -113,9 +116,30 @@ fn not_utf8_line(alloc: Global, file: &'static str, at: u64) -> Result<String, M
     line_on(begun, what.as_str())
 }
 
-/// The line that refuses a grammar's text.
-fn grammar_line(alloc: Global, cause: GrammarCause) -> Result<String, Memory>
-    ensures { IfOk result (λ text. string_bytes text ≡ grammar_fault_line (fault_of cause)) }
+/// The line on a place of this file where a name is what this says.
+fn name_line(
+    alloc: Global,
+    symbols: &Symbols,
+    file: &'static str,
+    line: u32,
+    column: u32,
+    what: &'static str,
+    name: Id,
+) -> Result<String, Memory>
+    requires { (text : List ℕ) × IsText symbols.now name text }
+    ensures { (name_text : List ℕ) → IsText symbols.now name name_text → IfOk result (λ text. string_bytes text
+        ≡ at_place file.now (record { line = line; column = column }) (what.now ++ name_text)) }
+{
+    let mut told = String::from_str(alloc, what)?;
+    told.push_str(symbols.text(name))?;
+    line_at_place(alloc, file, line, column, told.as_str())
+}
+
+/// The line that refuses a grammar's text, whose names have these symbols.
+pub fn grammar_line(alloc: Global, symbols: &Symbols, cause: GrammarCause) -> Result<String, Memory>
+    requires { (f : GrammarFault) × IsFault symbols.now cause f }
+    ensures { (f : GrammarFault) → IsFault symbols.now cause f
+        → IfOk result (λ text. string_bytes text ≡ grammar_fault_line f) }
 {
     match cause {
         GrammarCause::NotUtf8 { at } => not_utf8_line(alloc, "grammar", at),
@@ -128,6 +152,15 @@ fn grammar_line(alloc: Global, cause: GrammarCause) -> Result<String, Memory>
         GrammarCause::NotAConstituent { line, column } => {
             line_at_place(alloc, "grammar", line, column, "not a constituent")
         }
+        GrammarCause::TwiceNamed { line, column, name } => name_line(
+            alloc,
+            symbols,
+            "grammar",
+            line,
+            column,
+            "name given twice: ",
+            name,
+        ),
         GrammarCause::PathTooLong { line, column } => {
             line_at_place(alloc, "grammar", line, column, "path too long")
         }
@@ -135,6 +168,9 @@ fn grammar_line(alloc: Global, cause: GrammarCause) -> Result<String, Memory>
             line_at_place(alloc, "grammar", line, column, "too many symbols")
         }
         GrammarCause::NoRules => String::from_str(alloc, "error: grammar: no rules\n"),
+        GrammarCause::TooDeep { line, column } => {
+            line_at_place(alloc, "grammar", line, column, "too deep")
+        }
         GrammarCause::LaterForm { line, column } => {
             line_at_place(alloc, "grammar", line, column, "not built yet")
         }
@@ -142,9 +178,8 @@ fn grammar_line(alloc: Global, cause: GrammarCause) -> Result<String, Memory>
 }
 
 /// The line that refuses a lexicon's text.
-fn lexicon_line(alloc: Global, cause: LexiconCause) -> Result<String, Memory>
-    ensures { IfOk result (λ text.
-        string_bytes text ≡ lexicon_fault_line (lexicon_fault_of cause)) }
+pub fn lexicon_line(alloc: Global, cause: LexiconCause) -> Result<String, Memory>
+    ensures { IfOk result (λ text. string_bytes text ≡ lexicon_fault_line (fault_of cause)) }
 {
     match cause {
         LexiconCause::NotUtf8 { at } => not_utf8_line(alloc, "lexicon", at),
@@ -157,8 +192,8 @@ fn lexicon_line(alloc: Global, cause: LexiconCause) -> Result<String, Memory>
         LexiconCause::PathTooLong { line, column } => {
             line_at_place(alloc, "lexicon", line, column, "path too long")
         }
-        LexiconCause::LaterForm { line, column } => {
-            line_at_place(alloc, "lexicon", line, column, "not built yet")
+        LexiconCause::TooDeep { line, column } => {
+            line_at_place(alloc, "lexicon", line, column, "too deep")
         }
         LexiconCause::Expected { line, column, what } => {
             expected_line(alloc, "lexicon", line, column, &what)
@@ -174,47 +209,43 @@ fn line_at(alloc: Global, file: &'static str, line: u32, what: &str) -> Result<S
     line_on(begun, what)
 }
 
-/// The line that refuses a rule or an entry of this file that has so many equations.
-fn equations_line(
+/// The line that refuses what stands at a line of this file and has more than so many of these.
+fn size_line(
     alloc: Global,
     file: &'static str,
     line: u32,
+    most: &'static str,
     count: u64,
 ) -> Result<String, Memory>
-    ensures { IfOk result (λ text.
-        string_bytes text ≡ size_fault_line file.now (TooManyEquations line count)) }
+    ensures { IfOk result (λ text. string_bytes text
+        ≡ at_line file.now line (most.now ++ decimal count ++ codes ")")) }
 {
-    let what = format!(in alloc; "more than 1024 equations ({count})")?;
+    let mut what = String::from_str(alloc, most)?;
+    let count = format!(in alloc; "{count})")?;
+    what.push_str(count.as_str())?;
     line_at(alloc, file, line, what.as_str())
 }
 
-/// The line that refuses a rule or an entry of this file that is too large.
-fn expand_line(alloc: Global, file: &'static str, cause: ExpandCause) -> Result<String, Memory>
-    ensures { IfOk result (λ text.
-        string_bytes text ≡ size_fault_line file.now (cause_seen cause)) }
+/// The line that refuses a template, a rule or an entry of this file, whose names have these symbols.
+pub fn expand_line(
+    alloc: Global,
+    symbols: &Symbols,
+    file: &'static str,
+    cause: ExpandCause,
+) -> Result<String, Memory>
+    requires { (f : ExpandFault (List ℕ)) × SameExpandFault (IsText symbols.now) (cause_seen cause) f }
+    ensures { (f : ExpandFault (List ℕ)) → SameExpandFault (IsText symbols.now) (cause_seen cause) f
+        → IfOk result (λ text. string_bytes text ≡ expand_fault_line file.now f) }
 {
     match cause {
-        ExpandCause::TooManyEquations { line, count } => equations_line(alloc, file, line, count),
-    }
-}
-
-impl Refusal {
-    /// The line that says why the words or a file are refused, with its LF.
-    pub fn line(&self, alloc: Global) -> Result<String, Memory>
-        ensures { IfOk result (λ text. string_bytes text ≡ refusal_line self.now) }
-    {
-        match self {
-            Refusal::Words => String::from_str(alloc, USAGE),
-            Refusal::Grammar(GrammarTrouble::TooLong) => String::from_str(alloc, LONG_GRAMMAR),
-            Refusal::Grammar(GrammarTrouble::Text(cause)) => grammar_line(alloc, *cause),
-            Refusal::Grammar(GrammarTrouble::Expand(cause)) => {
-                expand_line(alloc, "grammar", *cause)
-            }
-            Refusal::Lexicon(LexiconTrouble::TooLong) => String::from_str(alloc, LONG_LEXICON),
-            Refusal::Lexicon(LexiconTrouble::Text(cause)) => lexicon_line(alloc, *cause),
-            Refusal::Lexicon(LexiconTrouble::Expand(cause)) => {
-                expand_line(alloc, "lexicon", *cause)
-            }
+        ExpandCause::UnknownName { line, column, name } => {
+            name_line(alloc, symbols, file, line, column, "unknown name: ", name)
+        }
+        ExpandCause::TooManyVariants { line, count } => {
+            size_line(alloc, file, line, "more than 256 variants (", count)
+        }
+        ExpandCause::TooManyEquations { line, count } => {
+            size_line(alloc, file, line, "more than 1024 equations (", count)
         }
     }
 }

@@ -2,7 +2,7 @@
 ghost use Rattle.std.specs.Prelude.{◌≡◌, ◌⊎◌, map, string_bytes, IfSome};
 ghost use Rattle.patr_io.specs.Causes.{HasCause};
 ghost use Rattle.patr_shell.specs.Sent.{AppendsFront, PassesOn};
-ghost use Rattle.patr_shell.specs.Outcome.{refusal_line, IsEndOf, ended_by_write, Writes, HasRun, CannotRead, KeepsCounts, NoneRose, MayBeDone, IsStatusOf};
+ghost use Rattle.patr_shell.specs.Outcome.{IsEndOf, ended_by_write, Writes, HasRun, CannotRead, KeepsCounts, NoneRose, MayBeDone, IsStatusOf};
 
 use crate::opening::open;
 use crate::refusal::{OpeningFault, Refusal};
@@ -15,17 +15,15 @@ use std::sync::Wait;
 use std::thread::Threads;
 
 /// Writes the line of a refusal, and answers how the run ends.
-fn refuse<K: Sink>(alloc: Global, output: &mut K, refusal: Refusal) -> Status
+fn refuse<K: Sink>(output: &mut K, refusal: Refusal, line: String) -> Status
     ensures front { AppendsFront (K.written output.old) (K.written output.new)
-        (refusal_line refusal) }
-    ensures status { IsEndOf refusal result (K.written output.old) (K.written output.new) }
+        (string_bytes line) }
+    ensures status { IsEndOf refusal (string_bytes line) result
+        (K.written output.old) (K.written output.new) }
     ensures cause { HasCause (K.faults output.old) (K.faults output.new) (ended_by_write result) }
     ensures flushed { PassesOn (ended_by_write result) (K.written output.old) (K.written output.new)
         (K.flushed output.old) (K.flushed output.new) }
 {
-    let Ok(line) = refusal.line(alloc) else {
-        return Status::Memory;
-    };
     match send(output, line.as_bytes()) {
         Ok(()) => Status::from(refusal),
         Err(_) => Status::WriteFault,
@@ -73,7 +71,7 @@ pub fn run<R: Threads + Wait + Sync, F: Shelf, S: Source, K: Sink, G: Gate>(
 {
     match open(alloc, words, shelf) {
         Ok(opened) => run_session(alloc, &opened.language, opened.state, input, output, gate),
-        Err(OpeningFault::Refused(refusal)) => refuse(alloc, output, refusal),
+        Err(OpeningFault::Refused(refusal, line)) => refuse(output, refusal, line),
         Err(OpeningFault::Read) => Status::ReadFault,
         Err(OpeningFault::Memory) => Status::Memory,
     }

@@ -14,6 +14,7 @@ use Rattle.patr_model.specs.GrammarText.{grammar_fault_line, ReadsGrammar, HasGr
 use Rattle.patr_model.specs.LexiconText as lexicon_text
 use Rattle.patr_model.specs.LexiconText.{EntryText, lexicon_fault_line, ReadsLexicon, HasLexiconFault}
 use Rattle.patr_model.specs.CommandLine.{command_words}
+use Rattle.patr_model.specs.Bytes.{same_text}
 use Rattle.patr_model.specs.Build.{BuildFault, build_fault, build, grounds, keys_of}
 use Rattle.patr_model.specs.Notations as stages
 use Rattle.patr_model.specs.Notations.{lines_with_commands}
@@ -83,13 +84,13 @@ module _ (stage : Stage) (forms : LineForms) (N : Numbering) where
     | inl more ↦ (_, long b refl more refl, tt)
     | inr fits ↦ elim (lexicon_or_fault stage b) [
       | inr f ↦ (_, fault b refl fits f.0 f.1 refl, tt)
-      | inl l ↦ go b fits l.0 l.1 (build_fault g l.0) refl
+      | inl l ↦ go b fits l.0 l.1 (build_fault same_text g l.0) refl
     ]
   ]
     where
-      go : (b : List ℕ) → length b ≤ 16777216 → (l : List EntryText) → ReadsLexicon stage b l → (o : Option BuildFault) → build_fault g l ≡ o → (o : Opening) × AfterGrammar notation N setup g (Some b) o × IsMade o
+      go : (b : List ℕ) → length b ≤ 16777216 → (l : List EntryText) → ReadsLexicon stage b l → (o : Option (BuildFault (List ℕ))) → build_fault same_text g l ≡ o → (o : Opening) × AfterGrammar notation N setup g (Some b) o × IsMade o
       go b fits l r (Some f) q = (_, refused b l refl fits r _ _ (f, q, refl, refl) refl, tt)
-      go b fits l r None q = (Session (grounds N g l) (first_state setup), built b l (grounds N g l) refl fits r (q, refl) refl, builds_are_ready (build N.number (keys_of N) g l) (keys_of N).cat (are_built N.number (keys_of N) g l))
+      go b fits l r None q = (Session (grounds N g l) (first_state setup), built b l (grounds N g l) refl fits r (q, refl) refl, builds_are_ready (build N.number same_text (keys_of N) g l) (keys_of N).cat (are_built N.number same_text (keys_of N) g l))
 
   after_words : (setup : Setup) (files : List ℕ → Option (List ℕ)) (bytes : Option (List ℕ)) → files setup.grammar ≡ bytes → (o : Opening) × AfterWords notation N setup files o × IsMade o
   after_words setup files None q = (Refusal [] NotRead, absent q refl, tt)

@@ -1,10 +1,10 @@
-use Rattle.std.proofs.Common.{◌≡◌, ℕ, ◌≤◌, List, length, map, Ok, IfOk, IfErr, IsUtf8, sym, ap, ◌∙◌, subst, arith}
+use Rattle.std.proofs.Common.{◌≡◌, ℕ, ◌≤◌, List, length, map, Ok, IfOk, IfErr, IsUtf8, refl, sym, ap, ◌∙◌, subst, arith}
 use Rattle.patr_grammar.proofs.Names.{All, Each, IfOk-weaker, InOrder, IsLexeme, IsRefusedFor, IsSpelled, Lexeme, StandsFor, length-map, scan, seen, start_place, tokens_of}
 use Rattle.std.specs.Str.{IsValidUpTo}
 use Rattle.std.proofs.Math.Seq.{take-length}
 use Rattle.std.proofs.lemmas.Str.{IsCharBoundary-start}
 use Rattle.patr_model.proofs.Renaming.{each_length}
-use Rattle.patr_model.specs.Faults.{StopsUtf8}
+use Rattle.patr_model.specs.Faults.{NotText, StopsUtf8}
 use Rattle.patr_text.specs.declared.token.Token.{Token}
 use Rattle.patr_grammar.proofs.Meanings.{answered}
 use Rattle.patr_grammar.proofs.Spelled.{spelled_in_order, bytes_within_text, count_in_order}
@@ -14,7 +14,7 @@ stops : (bytes : List ℕ) (n : ℕ) → IsValidUpTo bytes n → StopsUtf8 bytes
 stops bytes n h = (h.short, h.front, λ k lt le is. h.longest k lt is)
 
 pub returns-in-Err-clause-refused : goal.returns-in-Err-clause-refused
-returns-in-Err-clause-refused c = stops c.args.bytes.now c.valid_up_to-at.result (subst (IsValidUpTo c.args.bytes.now) (sym c.valid_up_to-at.ensures) c.in-Err.ensures.cases.1)
+returns-in-Err-clause-refused c = (NotText c.valid_up_to-at.result, stops c.args.bytes.now c.valid_up_to-at.result (subst (IsValidUpTo c.args.bytes.now) (sym c.valid_up_to-at.ensures) c.in-Err.ensures.cases.1), refl)
 
 pub tokens-requires-clause-start : goal.tokens-requires-clause-start
 tokens-requires-clause-start c = IsCharBoundary-start c.in-Ok.text.now (subst IsUtf8 (sym c.in-Ok.ensures.cases.0) c.in-Ok.ensures.cases.1)
@@ -59,7 +59,7 @@ scanned : (c : goal.After-drop-tokens-2) → tokens_of c.in-Ok.text.now ≡ Ok (
 scanned c = ap (λ (bytes : List ℕ). scan 0 0 start_place bytes) (sym (take-length c.in-Ok.text.now)) ∙ c.in-Ok-tokens.ensures.read
 
 -- what was answered of the lexemes is so of the text
-answered_of : (c : goal.After-drop-tokens-2) → IfOk c.read.result (λ g. StandsFor c.lexemes.new.symbols c.in-Ok.text.now g) × IfErr c.read.result (λ fault. IsRefusedFor c.in-Ok.text.now fault)
+answered_of : (c : goal.After-drop-tokens-2) → IfOk c.read.result (λ g. StandsFor c.lexemes.new.symbols c.in-Ok.text.now g) × IfErr c.read.result (λ fault. IsRefusedFor c.lexemes.new.symbols c.in-Ok.text.now fault)
 answered_of c =
     let text = c.in-Ok.text.now in
     let utf8 = subst IsUtf8 (sym c.in-Ok.ensures.cases.0) c.in-Ok.ensures.cases.1 in

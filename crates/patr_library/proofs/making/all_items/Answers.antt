@@ -1,7 +1,22 @@
-use Rattle.std.proofs.Common.{◌∙◌, ap, arith, length, map, subst}
-use Rattle.patr_library.proofs.Names.{in_lexicon, shown_of, AreRulesDealt, all_numbered, variants_of, AreEntriesDealt, entry_variants_of}
-use Rattle.patr_library.proofs.Merged.{has_items, fault_is}
+use Rattle.std.proofs.Common.{◌≡◌, ◌∙◌, ap, sym, arith, length, map, subst, None}
+use Rattle.patr_library.proofs.Names.{shown_of, AreRulesDealt, all_numbered, variants_of, AreEntriesDealt, entry_variants_of, IsRefusedBy, entries_fault, entries_of, grammar_fault, grammar_first, grammar_of, meant, same}
+use Rattle.patr_library.proofs.Merged.{has_items, no_template, template_refused}
 use Rattle.patr_library.proofs.making.all_items.Goals as goal
+
+pub returns-in-Err-clause-refused : goal.returns-in-Err-clause-refused
+returns-in-Err-clause-refused c = c.in_grammar.ensures c.args.grammar.now c.args.lexicon.now (template_refused c.args.grammar.now c.in-Err.fault c.in-Err.ensures.refused)
+
+pub returns-in-Err-keep_rules-clause-refused : goal.returns-in-Err-keep_rules-clause-refused
+returns-in-Err-keep_rules-clause-refused c =
+    let g = c.args.grammar.now in
+    c.in_grammar-in-Err-keep_rules.ensures g c.args.lexicon.now (subst (λ f. IsRefusedBy f c.in-Err-keep_rules.fault) (sym (no_template g c.in-Ok.ensures.faultless)) c.in-Err-keep_rules.ensures.refused)
+
+pub returns-in-Err-keep_entries-clause-refused : goal.returns-in-Err-keep_entries-clause-refused
+returns-in-Err-keep_entries-clause-refused c =
+    let g = c.args.grammar.now in
+    let l = c.args.lexicon.now in
+    c.in_lexicon.ensures g l (no_template g c.in-Ok.ensures.faultless ∙ c.in_default.ensures.faultless)
+    (subst (λ ms. IsRefusedBy (entries_fault same ms (entries_of l)) c.in-Err-keep_entries.fault) c.in-Ok.ensures.meant c.in-Err-keep_entries.ensures.refused)
 
 pub returns-clause-items : goal.returns-clause-items
 returns-clause-items c =
@@ -14,7 +29,8 @@ returns-clause-items c =
     let entries = c.keep_entries.new.items.items in
     has_items grammar l u v w rules entries c.keep_entries.new.arena.lawful
     (subst (λ xs. AreRulesDealt u v (all_numbered 0 (map variants_of grammar.rules.items)) xs rules) c.new-rules.ensures.items c.in_default.ensures.dealt)
-    (subst (λ xs. AreEntriesDealt v w (all_numbered 0 (map entry_variants_of l)) xs entries) c.new-entries.ensures.items c.in_default-keep_entries.ensures.dealt)
+    (subst (λ xs. AreEntriesDealt v w (all_numbered 0 (map (entry_variants_of (meant grammar.templates.items)) l)) xs entries) c.new-entries.ensures.items
+    (subst (λ ms. AreEntriesDealt v w (all_numbered 0 (map (entry_variants_of ms) l)) c.new-entries.result.items entries) c.in-Ok.ensures.meant c.in_default-keep_entries.ensures.dealt))
 
 pub returns-clause-few : goal.returns-clause-few
 returns-clause-few c =
@@ -26,10 +42,8 @@ returns-clause-few c =
 
 pub returns-clause-faultless : goal.returns-clause-faultless
 returns-clause-faultless c =
-    fault_is c.args.grammar.now c.args.lexicon.now c.in_default.ensures.faultless ∙ ap in_lexicon c.in_default-keep_entries.ensures.faultless
-
-pub returns-in-Err-clause-refused : goal.returns-in-Err-clause-refused
-returns-in-Err-clause-refused c = c.in_grammar.ensures c.args.grammar.now c.args.lexicon.now c.in-Err.ensures.refused
-
-pub returns-in-Err-keep_entries-clause-refused : goal.returns-in-Err-keep_entries-clause-refused
-returns-in-Err-keep_entries-clause-refused c = c.in_lexicon.ensures c.args.grammar.now c.args.lexicon.now c.in_default.ensures.faultless c.in-Err-keep_entries.ensures.refused
+    let g = c.args.grammar.now in
+    let l = c.args.lexicon.now in
+    let grammar : grammar_fault same (grammar_of g) ≡ None = no_template g c.in-Ok.ensures.faultless ∙ c.in_default.ensures.faultless in
+    let lexicon : entries_fault same (meant g.templates.items) (entries_of l) ≡ None = subst (λ ms. entries_fault same ms (entries_of l) ≡ None) c.in-Ok.ensures.meant c.in_default-keep_entries.ensures.faultless in
+    λ i. grammar_first (grammar i) (lexicon i)

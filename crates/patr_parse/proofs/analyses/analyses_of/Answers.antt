@@ -6,7 +6,7 @@ use Rattle.patr_lists.specs.Numbers.{places}
 use Rattle.patr_parse.proofs.Names.{Id, ids, view_of, Shown, Edge, Stored, keys, rules_of, AreAll, edge_of, is_whole}
 use Rattle.patr_grammar.specs.declared.grammar.Grammar.{Grammar}
 use Rattle.patr_model.proofs.StatedCategories.{are_built}
-use Rattle.patr_library.specs.Stored.{entries_of, grammar_of, number}
+use Rattle.patr_library.specs.Stored.{entries_of, grammar_of, number, same}
 use Rattle.patr_parse.proofs.Pushed.{placed_below}
 use Rattle.patr_parse.proofs.Ordered.{analysis_cmp}
 use Rattle.patr_parse.proofs.AllAnalyses.{are_all, is_all}
@@ -28,7 +28,7 @@ pub returns-then-len-le1 : goal.returns-then-len-le1
 returns-then-len-le1 c =
     let s = c.args.library.now in
     is_all (rules_of s) s c.requires.stored (view_of c.args.view.now) c.args.chart.now.words c.args.chart.now.edges c.in_ok-edges.ensures.chart c.requires.edges (ids c.args.words.now) c.requires.chart
-    (are_built number keys (grammar_of s.grammar) (entries_of s.lexicon)).states c.in_ok-edges.edges.items
+    (are_built number same keys (grammar_of s.grammar) (entries_of s.lexicon)).states c.in_ok-edges.edges.items
     (c.in_ok-edges.ensures.edges ∙ passing_is s (view_of c.args.view.now) c.args.chart.now.edges c.args.words.now c.grammar.result.now c.grammar.ensures) (omega arith)
 
 pub returns : goal.returns
@@ -41,7 +41,7 @@ returns c =
     let sorted : IsSorted analysis_cmp c.sort_unstable.new.self.items = c.sort_unstable.ensures.sorted in
     let all : AreAll g keys.cat ws es (map edge_of c.sort_unstable.new.self.items) =
     are_all g s c.requires.stored (view_of c.args.view.now) c.args.chart.now.words es c.in_ok-edges.ensures.chart c.requires.edges ws c.requires.chart
-    (are_built number keys (grammar_of s.grammar) (entries_of s.lexicon)).states c.in_ok-found.found.items c.sort_unstable.new.self.items
+    (are_built number same keys (grammar_of s.grammar) (entries_of s.lexicon)).states c.in_ok-found.found.items c.sort_unstable.new.self.items
     picked c.in_ok-found.ensures.keys c.sort_unstable.ensures.permutation sorted in
     IfOk-weaker c.edges_of.result (λ edges. edges.items ≡ map edge_of c.deref-2.result.now) (λ found. AreAll g keys.cat ws es found.items)
     (λ found is. subst (λ ns. AreAll g keys.cat ws es ns) (sym (is ∙ ap (map edge_of) c.deref-2.ensures.value)) all) c.edges_of.ensures

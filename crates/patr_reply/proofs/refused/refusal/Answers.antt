@@ -21,5 +21,5 @@ returns-in-TooManyEdges c = λ s table limit names features count first_cause fi
     let most = c.in-TooManyEdges.limit in
     let h : IsFirstCause s table words limit (TooManyEdges most) = subst (IsFirstCause s table words limit) c.in-TooManyEdges.is first_cause in
     IfOk-weaker c.many_line.result _ _
-    (λ text is. of_many s table names agrees first words limit features count (string_bytes text) h.3 h.1 h.2 h.4 h.5 (is ∙ ap (λ n. line (codes "error: more than " ++ decimal n ++ codes " edges")) h.0))
+    (λ text is. of_many s table names agrees held first words limit features count (string_bytes text) h.3 h.1 h.2 h.4 h.5 (is ∙ ap (λ n. line (codes "error: more than " ++ decimal n ++ codes " edges")) h.0))
     c.many_line.ensures

@@ -27,5 +27,5 @@ returns-clause-listed g c = λ ws limit names sound agrees.
 
 pub returns-clause-sentence : goal.returns-clause-sentence
 returns-clause-sentence g c = λ words limit names parsed agrees.
-    of_parsed c.args.library.now c.args.symbols.now names agrees c.len-count.ensures.first words limit c.args.features c.args.count (string_bytes c.write_count.new.out) c.args.parsed.now parsed
+    of_parsed c.args.library.now c.args.symbols.now names agrees c.requires.held c.len-count.ensures.first words limit c.args.features c.args.count (string_bytes c.write_count.new.out) c.args.parsed.now parsed
     (returns-clause-listed g c parsed.numbers limit names parsed.sound agrees)

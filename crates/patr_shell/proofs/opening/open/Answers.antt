@@ -1,6 +1,6 @@
 use Rattle.std.proofs.Common.{◌∙◌, sym, ap, refl, subst, length, arith, map, string_bytes}
 use Rattle.patr_shell.proofs.Names.{err_from_is_err_and, setup_meant, setup_seen, grammar, lexicon, IsTable}
-use Rattle.patr_shell.proofs.Meanings.{is_read, is_opened, has_grammar, have_session, first_few, build_refused}
+use Rattle.patr_shell.proofs.Meanings.{stands_still, is_opened, has_grammar, have_session, first_few, build_refused}
 use Rattle.patr_shell.proofs.opening.open.Goals as goal
 
 pub load_grammar-requires : goal.load_grammar-requires
@@ -22,22 +22,22 @@ returns-in_err-lexicon-clause-read g c =
 
 pub build-requires-clause-grammar : goal.build-requires-clause-grammar
 build-requires-clause-grammar g c =
-    (c.in_ok-grammar.ensures.grammar.stands.0, is_read _ _ c.load_lexicon.ensures.extends _ (setup_meant c.in-Some.setup) _ _ c.in_ok-grammar.ensures.grammar (rw c.load_grammar.ensures.files at c.in_ok-lexicon.ensures.lexicon))
+    (c.in_ok-grammar.ensures.grammar.bytes, stands_still _ _ c.load_lexicon.ensures.extends _ (setup_meant c.in-Some.setup) _ _ c.len.ensures.one_to_one c.in_ok-grammar.ensures.grammar (rw c.load_grammar.ensures.files at c.in_ok-lexicon.ensures.lexicon))
 
 pub returns-in_err-language-clause-fault : goal.returns-in_err-language-clause-fault
 returns-in_err-language-clause-fault g c =
     let p = err_from_is_err_and c.from_residual-in_err-language.result c.from_residual-in_err-language.ensures.1 in
     rw (p.1, p.2) (build_refused (map string_bytes c.args.words.now) (setup_meant c.in-Some.setup) (sym c.in_ok-setup.ensures.words ∙ ap setup_seen c.in-Some.is)
-    _ _ c.load_lexicon.ensures.extends _ _ _ c.in_ok-grammar.ensures.grammar (rw c.load_grammar.ensures.files at c.in_ok-lexicon.ensures.lexicon) _ c.in_err-language.ensures.fault)
+    _ _ c.load_lexicon.ensures.extends _ _ c.len.ensures.one_to_one _ c.in_ok-grammar.ensures.grammar (rw c.load_grammar.ensures.files at c.in_ok-lexicon.ensures.lexicon) _ c.in_err-language.ensures.fault)
 
 pub returns-clause-opened : goal.returns-clause-opened
 returns-clause-opened g c =
-    is_opened (map string_bytes c.args.words.now) (setup_meant c.in-Some.setup) (sym c.in_ok-setup.ensures.words ∙ ap setup_seen c.in-Some.is) _ _ c.load_lexicon.ensures.extends _ _
+    is_opened (map string_bytes c.args.words.now) (setup_meant c.in-Some.setup) (sym c.in_ok-setup.ensures.words ∙ ap setup_seen c.in-Some.is) _ _ c.load_lexicon.ensures.extends _ _ c.len.ensures.one_to_one
     _ c.in_ok-grammar.ensures.grammar (rw c.load_grammar.ensures.files at c.in_ok-lexicon.ensures.lexicon) c.len.ensures.first c.in_ok-language.language c.in_ok-language.ensures.built c.first.result c.first.ensures.state
 
 pub returns-clause-found : goal.returns-clause-found
 returns-clause-found g c =
-    have_session (map string_bytes c.args.words.now) (setup_meant c.in-Some.setup) (sym c.in_ok-setup.ensures.words ∙ ap setup_seen c.in-Some.is) _ _ c.load_lexicon.ensures.extends _ _
+    have_session (map string_bytes c.args.words.now) (setup_meant c.in-Some.setup) (sym c.in_ok-setup.ensures.words ∙ ap setup_seen c.in-Some.is) _ _ c.load_lexicon.ensures.extends _ _ c.len.ensures.one_to_one
     _ c.in_ok-grammar.ensures.grammar (rw c.load_grammar.ensures.files at c.in_ok-lexicon.ensures.lexicon) c.in_ok-language.language c.in_ok-language.ensures.built
 
 pub returns-clause-table : goal.returns-clause-table

@@ -1,7 +1,7 @@
 use Rattle.std.proofs.Common.{map, string_bytes, inl, refl, ap}
 use Rattle.patr_shell.specs.Outcome.{ended_by_read, ended_by_write}
 use Rattle.patr_shell.proofs.Complete.{done_or_memory, refused_not, no_read, must_rise}
-use Rattle.patr_shell.proofs.Outs.{refused_text, session_text, nothing_text, session_cause, session_run, refusal_run}
+use Rattle.patr_shell.proofs.Outs.{refused_text, session_text, nothing_text, session_cause, session_run, refusal_cause, refusal_run}
 use Rattle.patr_shell.proofs.Passing.{passes_none}
 use Rattle.patr_shell.proofs.running.run.Goals as goal
 
@@ -11,8 +11,8 @@ returns-in-Ok-clause-text g c =
 
 pub returns-in-Err-Refused-clause-text : goal.returns-in-Err-Refused-clause-text
 returns-in-Err-Refused-clause-text g c =
-    let cause = rw c.in-Err-Refused.field-0-is at c.in-Err-Refused.ensures.fault in
-    refused_text (map string_bytes c.args.words.now) _ _ _ _ c.in-Err-Refused.refusal cause _ c.refuse.ensures.status c.refuse.ensures.front
+    let h = rw c.in-Err-Refused.field-0-is at c.in-Err-Refused.ensures.fault in
+    refused_text (map string_bytes c.args.words.now) _ _ _ _ c.in-Err-Refused.refusal (string_bytes c.in-Err-Refused.line) h _ (rw c.in-Err-Refused.field-0-is at c.refuse.ensures.status) (rw c.in-Err-Refused.field-0-is at c.refuse.ensures.front)
 
 pub returns-in-Err-Read-clause-text : goal.returns-in-Err-Read-clause-text
 returns-in-Err-Read-clause-text g c = nothing_text (map string_bytes c.args.words.now) _ _ _ _ refl
@@ -25,7 +25,14 @@ returns-in-Ok-clause-end g c =
     session_run (map string_bytes c.args.words.now) _ _ _ _ _ c.in-Ok.opened.language c.in-Ok.opened.state c.in-Ok.ensures.opened c.in-Ok.ensures.table _ c.run_session.ensures.status c.run_session.ensures.end
 
 pub returns-in-Err-Refused-clause-end : goal.returns-in-Err-Refused-clause-end
-returns-in-Err-Refused-clause-end g c = refusal_run (map string_bytes c.args.words.now) _ _ _ _ c.in-Err-Refused.refusal _ c.refuse.ensures.status
+returns-in-Err-Refused-clause-end g c =
+    let h = rw c.in-Err-Refused.field-0-is at c.in-Err-Refused.ensures.fault in
+    refusal_run (map string_bytes c.args.words.now) _ _ _ _ c.in-Err-Refused.refusal (string_bytes c.in-Err-Refused.line) h _ (rw c.in-Err-Refused.field-0-is at c.refuse.ensures.status)
+
+pub returns-in-Err-Refused-clause-cause : goal.returns-in-Err-Refused-clause-cause
+returns-in-Err-Refused-clause-cause g c =
+    let h = rw c.in-Err-Refused.field-0-is at c.in-Err-Refused.ensures.fault in
+    refusal_cause (map string_bytes c.args.words.now) _ _ _ c.in-Err-Refused.refusal (string_bytes c.in-Err-Refused.line) h _ (rw c.in-Err-Refused.field-0-is at c.refuse.ensures.status)
 
 pub returns-in-Err-Read-clause-end : goal.returns-in-Err-Read-clause-end
 returns-in-Err-Read-clause-end g c = inl (refl, refl)
@@ -51,8 +58,8 @@ returns-in-Ok-clause-complete g c = λ may none.
 
 pub returns-in-Err-Refused-clause-complete : goal.returns-in-Err-Refused-clause-complete
 returns-in-Err-Refused-clause-complete g c = λ may none.
-    let cause = rw c.in-Err-Refused.field-0-is at c.in-Err-Refused.ensures.fault in
-    refused_not (map string_bytes c.args.words.now) _ _ may c.in-Err-Refused.refusal c.refuse.result _ _ cause c.refuse.ensures.status
+    let h = rw c.in-Err-Refused.field-0-is at c.in-Err-Refused.ensures.fault in
+    refused_not (map string_bytes c.args.words.now) _ _ may c.in-Err-Refused.refusal (string_bytes c.in-Err-Refused.line) c.refuse.result _ _ h (rw c.in-Err-Refused.field-0-is at c.refuse.ensures.status)
     (λ is. must_rise _ _ _ c.refuse.ensures.cause none.sink_still (ap ended_by_write is))
 
 pub returns-in-Err-Read-clause-complete : goal.returns-in-Err-Read-clause-complete

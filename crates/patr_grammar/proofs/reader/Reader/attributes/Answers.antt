@@ -1,8 +1,8 @@
 use Rattle.std.proofs.Common.{◌-◌, List, sym, ap, ◌∙◌, arith, rules, tests}
 use Rattle.patr_grammar.proofs.Names.{Lexeme, PathTooLong, Stops, Word, attributes, begins, by_id, is_kind, word_list}
 use Rattle.patr_grammar.proofs.Cells.{first, others, cell, shorter_others}
-use Rattle.patr_grammar.proofs.Loops.{onto}
-use Rattle.patr_grammar.proofs.Written.{word_goes_on, word_too_many, words_stop}
+use Rattle.patr_grammar.specs.Views.{onto}
+use Rattle.patr_grammar.proofs.Forms.{word_goes_on, word_too_many, words_stop}
 use Rattle.patr_grammar.proofs.reader.Reader.attributes.Goals as goal
 use Rattle.patr_grammar.proofs.reader.Reader.attributes.Goals.{in_default-via-then-self-lt1, in_default-via-in-len1-up+else-is_kind}
 

@@ -1,6 +1,6 @@
 use Rattle.std.proofs.Common.{◌≡◌, ℕ, ◌≤◌, length}
 use Rattle.patr_grammar.proofs.Names.{attributes, by_id, word_list}
-use Rattle.patr_grammar.proofs.Loops.{onto}
+use Rattle.patr_grammar.specs.Views.{onto}
 use Rattle.patr_grammar.proofs.reader.Reader.attributes.Given as goal
 
 -- with room for as many more as there are lexemes

@@ -3,7 +3,7 @@ use Rattle.patr_model.specs.declared.notation.What.TheVariants as what
 use Rattle.patr_grammar.proofs.Names.{Expected, Lexeme, Stops, by_id, name_tokens}
 use Rattle.patr_grammar.proofs.Cells.{first, others, cell, no_cell, shorter_others}
 use Rattle.patr_grammar.proofs.Forms.{name_goes_on, name_ends, name_stops, name_missing}
-use Rattle.patr_grammar.proofs.Loops.{onto}
+use Rattle.patr_grammar.specs.Views.{onto}
 use Rattle.patr_grammar.proofs.reader.Reader.name_tokens.Goals as goal
 
 pub returns-then-is_kind-clause-gives : goal.returns-then-is_kind-clause-gives

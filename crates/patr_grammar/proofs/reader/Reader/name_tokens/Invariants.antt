@@ -1,6 +1,6 @@
 use Rattle.std.proofs.Common.{◌≡◌, ◌≤◌, length}
 use Rattle.patr_grammar.proofs.Names.{by_id, name_tokens}
-use Rattle.patr_grammar.proofs.Loops.{onto}
+use Rattle.patr_grammar.specs.Views.{onto}
 use Rattle.patr_grammar.proofs.reader.Reader.name_tokens.Given as goal
 
 abbrev pub invariant-tokens : goal.invariant-tokens

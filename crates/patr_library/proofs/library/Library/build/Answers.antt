@@ -1,5 +1,5 @@
 use Rattle.std.proofs.Common.{◌≡◌, ◌∙◌, None, Some, ap, arith, length, map, refl, sym, subst, rules}
-use Rattle.patr_library.proofs.Names.{length-map, build_fault, Id, shown_of, EntryItem, RuleItem, AreOfEntries, HasItems, built_rules, entries_of, grammar_of, word_at}
+use Rattle.patr_library.proofs.Names.{length-map, build_fault, same, Id, shown_of, EntryItem, RuleItem, AreOfEntries, HasItems, built_rules, entries_of, grammar_of, word_at}
 use Rattle.patr_library.proofs.Merged.{entries_there, mothers_found, words_found}
 use Rattle.patr_library.proofs.library.Library.build.Goals as goal
 
@@ -63,5 +63,5 @@ pub returns-clause-built : goal.returns-clause-built
 returns-clause-built c = record {
   grammar = refl;
   lexicon = refl;
-  faultless = subst (λ es. build_fault (grammar_of c.args.grammar) (entries_of es) ≡ None) c.entries.ensures.entries c.in_ok-items.ensures.faultless;
+  faultless = subst (λ es. build_fault same (grammar_of c.args.grammar) (entries_of es) ≡ None) c.entries.ensures.entries c.in_ok-items.ensures.faultless;
 }

@@ -1,0 +1,3 @@
+\w dogs
+\c N
+\f Third Plural
