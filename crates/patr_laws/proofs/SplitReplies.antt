@@ -5,12 +5,15 @@ use Rattle.std.proofs.lemmas.List.{length-map, map-append}
 use Rattle.patr_lists.specs.Members.{IsIn}
 use Rattle.patr_lists.proofs.Alls.{all_append, all_map, all_weaker}
 use Rattle.patr_lists.proofs.Members.{in_map}
-use Rattle.patr_model.specs.Derivation.{Rules, RuleVariant, Derivation, Leaf, Begin, Extend, KeyItem, rule_variant, end, root_item, below_key, key}
+use Rattle.patr_model.specs.Derivation.{Rules, RuleVariant, EntryVariant, entry_variant, Derivation, Leaf, Begin, Extend, KeyItem, rule_variant, end, root_item, below_key, key}
 use Rattle.patr_model.specs.Chart.{IsDerivation, IsAnalysis}
 use Rattle.patr_model.specs.Solved.{solved}
-use Rattle.patr_model.specs.Session.{Grounds, State, look_of, cat_of, line, number_before, numbers, Rises, AreAnalyses, ListsAnalyses, CountsEdges, IsSentenceReply, too_long, unknown, too_many, analyses}
+use Rattle.patr_model.specs.Session.{Grounds, State, Command, Limit, Features, Count, Show, Grammar, Make, Quit, IsLeastText, look_of, cat_of, line, number_before, numbers, Rises, AreAnalyses, ListsAnalyses, CountsEdges, IsSentenceReply, too_long, unknown, too_many, analyses}
+use Rattle.patr_model.specs.Solution.{IsSolvable}
+use Rattle.patr_model.specs.Showing as show
+use Rattle.patr_model.specs.Showing.{IsShown, ListsValues, grammar_replies}
 use Rattle.patr_model.specs.Notations.{lines_with_commands}
-use Rattle.patr_laws.specs.Alternatives.{gathered, Numbers, AreNumbered, counterpart, HaveCounterparts, GiveSameReplies}
+use Rattle.patr_laws.specs.Alternatives.{gathered, Numbers, AreNumbered, counterpart, AreAlike, HaveCounterparts, GiveSameReplies}
 use Rattle.patr_laws.proofs.Counterparts.{end_same, have_counterparts}
 use Rattle.patr_laws.proofs.Gathered.{comes_first, regathered, regathered_numbers, regathered_rises}
 use Rattle.patr_laws.proofs.SessionReplies.{lines_replied}
@@ -172,6 +175,55 @@ module _ (s : Grounds) (rules : List (List RuleVariant)) (f back : Numbers) (to 
         a.6 ∙ ap (λ n. line (codes "analyses " ++ decimal n) ++ a.1 ++ a.2) (sym (length-map a.0 c)),
       )
 
+  -- the leaf of an entry has a solution, and its least values, as before
+  leaf_alike : (e k : ℕ) (v : EntryVariant) → entry_variant g e k ≡ Some v → AreAlike g s'.rules (Leaf e k 0 1) (Leaf e k 0 1)
+  leaf_alike e k v q = to.alike (v.word ∷ []) (Leaf e k 0 1) (v, q, refl, refl)
+
+  is_shown : (w : List ℕ) (t : Derivation) → IsShown s w t → IsShown s' w t
+  is_shown w t h = record {
+    entry = h.entry;
+    number = h.number;
+    leaf = h.leaf;
+    variant = h.variant;
+    is = h.is;
+    word = h.word;
+    solvable = subst (IsSolvable s'.rules) (sym h.leaf) ((leaf_alike h.entry h.number h.variant h.is).solvable.0 (subst (IsSolvable g) h.leaf h.solvable));
+  }
+
+  values_there : (w : List ℕ) (n : ℕ) (ts : List Derivation) → AllByRecursion (IsShown s w) ts → (text : List ℕ) → ListsValues s n ts text → ListsValues s' n ts text
+  values_there w n [] each text l = l
+  values_there w n (t ∷ ts) each text l =
+      let h = each.0 in
+      let value = subst (λ u. IsLeastText s u l.0) h.leaf l.2 in (
+        l.0,
+        l.1,
+        subst (λ u. IsLeastText s' u l.0) (sym h.leaf) (value.0, value.1, ((leaf_alike h.entry h.number h.variant h.is).least value.0 value.1).0 value.2, value.3),
+        values_there w (suc n) ts each.1 l.1 l.3,
+        l.4,
+      )
+
+-- the same where the one is shown as the other is
+module _ (s : Grounds) (rules : List (List RuleVariant)) (f back : Numbers) (to : HaveCounterparts s.rules (record s.rules { rules = rules }) f back) (from : HaveCounterparts (record s.rules { rules = rules }) s.rules back f)
+    (keeps : KeepsOrder s.rules f) (kept : KeepsOrder (record s.rules { rules = rules }) back) where
+  abbrev there : Grounds
+  there = record s { rules = record s.rules { rules = rules } }
+
+  command_there : (st : State) (c : Command) (text : List ℕ) → grammar_replies s st c text → grammar_replies there st c text
+  command_there st (Limit n) text r = r
+  command_there st (Features b) text r = r
+  command_there st (Count b) text r = r
+  command_there st (Show w) text (show.unknown n e) = show.unknown n e
+  command_there st (Show w) text (show.shown k ts body are l e) = show.shown k ts body
+      (record {
+        rises = are.rises;
+        each = all_weaker (IsShown s w) (IsShown there w) (is_shown s rules f back to from keeps w) ts are.each;
+        every = λ t h. are.every t (is_shown there s.rules.rules back f from to kept w t h);
+      })
+      (values_there s rules f back to from keeps w 1 ts are.each body l) e
+  command_there st Grammar text r = r
+  command_there st (Make n) text r = r
+  command_there st Quit text r = r
+
 -- the same variants in the same order give the same replies
 pub same_replies : (s : Grounds) (rules : List (List RuleVariant)) → gathered s.rules.rules ≡ gathered rules → GiveSameReplies s (record s { rules = record s.rules { rules = rules } })
 same_replies s rules e =
@@ -184,12 +236,14 @@ same_replies s rules e =
     let n : AreNumbered h g back f = regathered_numbers h g.rules (sym e) in
     let to = have_counterparts g rules f back m n in
     let from = have_counterparts h g.rules back f n m in
-    let forth = sentence_there s rules f back to from (regathered_rises g.rules rules e) in
-    let home = sentence_there s' g.rules back f from to (regathered_rises rules g.rules (sym e)) in
+    let keeps = regathered_rises g.rules rules e in
+    let kept = regathered_rises rules g.rules (sym e) in
+    let forth = sentence_there s rules f back to from keeps in
+    let home = sentence_there s' g.rules back f from to kept in
     record {
       sentences = λ st ws text. (forth st ws text, home st ws text);
       sessions = λ st ls text quit. (
-        lines_replied solved solved s s' forth lines_with_commands (λ st c text m. m) st ls text quit,
-        lines_replied solved solved s' s home lines_with_commands (λ st c text m. m) st ls text quit,
+        lines_replied solved solved s s' forth lines_with_commands (command_there s rules f back to from keeps kept) st ls text quit,
+        lines_replied solved solved s' s home lines_with_commands (command_there s' g.rules back f from to kept keeps) st ls text quit,
       );
     }

@@ -1,4 +1,4 @@
--- The notations that are built, as a run reads them: rules and entries with path equations, templates, options and alternatives, sentences, and the commands that speak of the session alone.
+-- The notations that are built, as a run reads them: rules and entries with path equations, templates, options and alternatives, sentences, and the commands of a session as far as they are built.
 use Rattle.patr_model.specs.Run.{Notations}
 use Rattle.patr_model.specs.Stages.{Stage, with_groups}
 use Rattle.patr_model.specs.Notations.{lines_with_commands, notations}

@@ -12,6 +12,7 @@ pub mod Plain
 pub mod Grammar
 pub mod Text
 pub mod Session
+pub mod Showing
 pub mod Run
 pub mod Settled
 pub mod Tokens

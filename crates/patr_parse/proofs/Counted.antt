@@ -1,11 +1,9 @@
 -- How much is reached from values.
-use Rattle.std.proofs.Common.{◌≡◌, inl, inr, ℕ, ◌+◌, ◌≤◌, List, [], ◌∷◌, ◌++◌, length, refl, sym, ap, ◌∙◌, arith, subst}
-use Rattle.std.proofs.lemmas.List.{get_or_append_left}
+use Rattle.std.proofs.Common.{ℕ, ◌≤◌, length, arith}
 use Rattle.patr_lists.proofs.Members.{no_longer}
 use Rattle.patr_lists.proofs.Totals.{total_room}
 use Rattle.patr_lists.specs.Members.{IsIn}
-use Rattle.patr_parse.proofs.Names.{Value, Structure, IsReached, IsValue, IsStructure, NoRepeats, own, total, Counts}
-use Rattle.patr_parse.proofs.Longer.{reached_more, reached_less, reached_value}
+use Rattle.patr_parse.proofs.Names.{Value, Structure, IsReached, own, Counts}
 
 -- from what is reached, no more is reached
 pub counts_below : (S : Structure) (x y : Value) → ((k : ℕ) → IsReached S y k → IsReached S x k) → (N A n a : ℕ) → Counts S x N A → Counts S y n a → (n ≤ N) × (a ≤ A)

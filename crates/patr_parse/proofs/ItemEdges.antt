@@ -1,6 +1,6 @@
 -- The edges of a library's items.
 use Rattle.std.proofs.Common.{◌≡◌, ℕ, suc, ◌+◌, ◌<◌, Bool, true, false, not, ltb, ltb-true, ltb-false, [], ◌++◌, length, Some, None, slice_get, refl, sym, ap, ◌∙◌, arith, subst}
-use Rattle.patr_parse.proofs.Names.{Value, Node, arc, IsValue, IsStructure, Rules, Derivation, Begin, Leaf, IsLeastValue, some_inj, arc_of_longer, variant_steps, Shown, IsShown, ValueIsHeld, value_of, Extends, held_below, still_held, same_number_held, Counts, EdgeKind, Rule, Edge, kind_passive, RuleItem, EntryItem, Stored, IsStored, IsRuleItem, Bounds, rules_of, root_of, IsSoundEdge, HasMother, IsRootBy, ItemsAreHeld, IsAloneEdge}
+use Rattle.patr_parse.proofs.Names.{Value, Node, arc, IsValue, IsStructure, Rules, Derivation, Begin, Leaf, IsLeastValue, some_inj, arc_of_longer, variant_steps, Shown, IsShown, ValueIsHeld, value_of, Extends, held_below, same_number_held, Counts, EdgeKind, Rule, Edge, kind_passive, RuleItem, EntryItem, Stored, IsStored, IsRuleItem, Bounds, rules_of, root_of, IsSoundEdge, HasMother, IsRootBy, IsAloneEdge}
 use Rattle.patr_model.proofs.Longer.{longer_keeps}
 use Rattle.patr_arena.specs.declared.value.Value as its
 use Rattle.patr_arena.specs.declared.value.Value.TheVariants as value

@@ -1,5 +1,5 @@
 -- The items of a library, as derivations: each stands for one that has a solution.
-use Rattle.std.proofs.Common.{◌≡◌, ◌⊎◌, inl, inr, ℕ, zero, suc, ◌+◌, ◌<◌, ◌≤◌, Bool, true, false, nat_lt, ltb-true, ltb-false, List, [], ◌∷◌, length, map, Some, slice_get, refl, sym, ap, ◌∙◌, arith, subst, zero-add, eqb-true, eq-eqb}
+use Rattle.std.proofs.Common.{◌≡◌, ◌⊎◌, inl, inr, ℕ, zero, suc, ◌+◌, ◌<◌, Bool, true, false, nat_lt, ltb-true, ltb-false, List, [], ◌∷◌, length, map, Some, slice_get, refl, sym, ap, ◌∙◌, arith, subst, zero-add, eqb-true, eq-eqb}
 use Rattle.std.specs.Option.{option_map}
 use Rattle.std.proofs.lemmas.Option.{slice_get-map}
 use Rattle.patr_lists.proofs.Alls.{all_at}
@@ -7,11 +7,13 @@ use Rattle.patr_lists.proofs.Members.{in_cases, in_left, in_right, once_append, 
 use Rattle.patr_lists.specs.Numbers.{places}
 use Rattle.patr_lists.specs.Members.{NoRepeats, IsIn}
 use Rattle.patr_parse.proofs.Names.{Value, Structure, Rules, Derivation, Leaf, Begin, IsSolvable, IsLeastValue, IsNoPair, some_inj, variant_steps, places_pass, passes_placed, RuleItem, EntryItem, Stored, IsStored, IsRuleItem, rules_of, root_of, is_of_word, begun_at, leaves_at, leaves_from}
-use Rattle.patr_model.specs.Derivation.{start}
+use Rattle.patr_model.specs.Derivation.{start, key}
+use Rattle.patr_model.specs.Session as session
+use Rattle.patr_model.specs.Session.{number_before, numbers}
 use Rattle.patr_chart.proofs.Passing.{places_rise}
 use Rattle.patr_library.specs.Stored.{Rises, IsEntryItem, is_of_mother}
 use Rattle.patr_parse.specs.Begun.{begun_of, begun, leaf_of, leaf}
-use Rattle.patr_parse.proofs.Numbers.{rising_once, rising_of}
+use Rattle.patr_parse.proofs.Numbers.{Rising, rising_once, rising_of}
 
 -- ---- the members of a list that pass a test
 
@@ -160,6 +162,34 @@ module _ (s : Stored) (stored : IsStored s) where
   leaves_in w i n item at t =
       subst (λ o. IsIn (leaves_at s w i) (leaf_of o i)) at
       (in_map (leaf s i) (places (is_of_word s.lexicon w) 0 s.entries) n (is_placed (is_of_word s.lexicon w) s.entries n item at t))
+
+  -- the entries of a word stand by entry and variant
+  leaves_rising : (i n : ℕ) (ks : List ℕ) → Rising n ks → ((k : ℕ) → IsIn ks k → (item : EntryItem) × (slice_get s.entries k ≡ Some item)) → session.Rises (map (leaf s i) ks)
+  leaves_rising i n [] rises there = tt
+  leaves_rising i n (k ∷ []) rises there = tt
+  leaves_rising i n (k ∷ m ∷ ks) rises there = (
+    go (earlier_before (map (λ x. (x.entry, x.variant)) s.entries) stored.entries_rise k m (a.0.entry, a.0.variant) (b.0.entry, b.0.variant)
+        (get_mapped (λ (x : EntryItem). (x.entry, x.variant)) s.entries k a.0 a.1) (get_mapped (λ (x : EntryItem). (x.entry, x.variant)) s.entries m b.0 b.1) (let less = rises.1.0 in omega (arith, less))),
+    leaves_rising i (suc k) (m ∷ ks) rises.1 (λ j h. there j (inr h)),
+  )
+    where
+      a : (item : EntryItem) × (slice_get s.entries k ≡ Some item)
+      a = there k (inl refl)
+
+      b : (item : EntryItem) × (slice_get s.entries m ≡ Some item)
+      b = there m (inr (inl refl))
+
+      ordered : Before (a.0.entry, a.0.variant) (b.0.entry, b.0.variant) → number_before (numbers (key (Leaf a.0.entry a.0.variant i (suc i)))) (numbers (key (Leaf b.0.entry b.0.variant i (suc i))))
+      ordered (inl h) = inr (refl, inl h)
+      ordered (inr h) = inr (refl, inr (h.0, inl h.1))
+
+      go : Before (a.0.entry, a.0.variant) (b.0.entry, b.0.variant) → number_before (numbers (key (leaf s i k))) (numbers (key (leaf s i m)))
+      go h = subst (λ o. number_before (numbers (key (leaf_of o i))) (numbers (key (leaf s i m)))) (sym a.1) (subst (λ o. number_before (numbers (key (Leaf a.0.entry a.0.variant i (suc i)))) (numbers (key (leaf_of o i)))) (sym b.1) (ordered h))
+
+  pub leaves_rise : (w i : ℕ) → session.Rises (leaves_at s w i)
+  leaves_rise w i =
+      let T = is_of_word s.lexicon w in
+      leaves_rising i 0 (places T 0 s.entries) (rising_of 0 (places T 0 s.entries) (λ h. omega arith) (places_rise T 0 s.entries)) (λ k h. let p = placed_is T s.entries k h in (p.0, p.1))
 
   once_leaves : (w i : ℕ) → NoRepeats (leaves_at s w i)
   unfolding leaf_number placed_is

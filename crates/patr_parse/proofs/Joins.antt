@@ -1,14 +1,13 @@
 -- The edge that two edges make.
-use Rattle.std.proofs.Common.{◌≡◌, ◌≢◌, inl, inr, ℕ, suc, ◌+◌, ◌<◌, ◌≤◌, Bool, true, false, List, [], ◌∷◌, ◌++◌, length, append-nil, option_and_then, Some, None, slice_get, refl, sym, ap, ◌∙◌, arith, subst}
+use Rattle.std.proofs.Common.{◌≡◌, ◌≢◌, inl, inr, ℕ, suc, ◌+◌, ◌≤◌, Bool, true, false, List, [], ◌∷◌, length, option_and_then, Some, None, slice_get, refl, sym, ap, ◌∙◌, arith, subst}
 use Rattle.patr_lists.proofs.Places.{get_there}
-use Rattle.patr_parse.proofs.Names.{extends_on, Value, Atom, Node, Structure, arc, IsReached, IsStructure, IsUnifier, Images, Keeps, Rules, Derivation, Extend, size, IsSolvable, IsLeastValue, some_inj, map_some, arc_value, Feature, Ref, Shown, IsShown, ValueIsHeld, value_of, Extends, with_block, value_below, made_of, Counts, EdgeKind, Rule, Edge, kind_passive, AreEdges, derivations, derived, derived_by, is_judged, Stored, Bounds, HasSource, IsJoined, IsSoundEdge, daughters, Draft, IsDraft, with_root, HasMother, IsRootBy, ArePartners, IsReady}
+use Rattle.patr_parse.proofs.Names.{Value, Atom, Node, Structure, arc, IsReached, IsUnifier, Rules, Derivation, Extend, size, IsSolvable, IsLeastValue, some_inj, Feature, Ref, Shown, IsShown, ValueIsHeld, value_of, with_block, made_of, EdgeKind, Rule, Edge, kind_passive, AreEdges, is_judged, Stored, IsSoundEdge, daughters, HasMother, IsRootBy, ArePartners, IsReady}
 use Rattle.patr_model.specs.Structure.{at}
 use Rattle.patr_model.specs.Subsumption.{TakesBoth}
 use Rattle.patr_model.specs.Derivation.{seen, IsPartial, IsComplete}
 use Rattle.patr_model.specs.Solution.{with_slots}
 use Rattle.patr_model.proofs.Maps.{carries_arc}
 use Rattle.patr_model.proofs.Steps.{solves_count, takes_of_solution, unifier_of_partial, unifier_of_complete}
-use Rattle.patr_arena.specs.declared.value.Value as its
 use Rattle.patr_unify.specs.Copying.{IsMade}
 use Rattle.patr_chart.specs.declared.edge.EdgeKind.TheVariants.{Entry}
 use Rattle.patr_chart.specs.Edges.{AreAdjacent}
@@ -20,11 +19,6 @@ use Rattle.patr_parse.specs.declared.work.Outcome.TheVariants as outcome
 use Rattle.patr_parse.specs.Drafts.{HasCombined}
 use Rattle.patr_parse.specs.Joining.{AreWithin}
 use Rattle.patr_parse.proofs.Pairs.{tree_in}
-use Rattle.patr_parse.proofs.Longer.{unifier_sides}
-use Rattle.patr_parse.proofs.Counted.{counts_below}
-use Rattle.patr_parse.proofs.Growing.{back}
-use Rattle.patr_parse.proofs.Renumbered.{IsRenumbered, moved, arc_moved, counts_home, keeps_moved, unifier_moved}
-use Rattle.patr_parse.proofs.Placed.{block_behind, block_moved, home, place, ref_moved}
 
 -- the two edges that may be decided
 pub partners_near : (es : List Edge) (a p : ℕ) (x y : Edge) → ArePartners es a p → slice_get es a ≡ Some x → slice_get es p ≡ Some y → AreAdjacent x y

@@ -1,7 +1,7 @@
 -- What stays the same in a structure with more nodes.
-use Rattle.std.proofs.Common.{◌≡◌, ℕ, ◌<◌, Bool, true, false, cond, nat_lt, ltb-true, ltb-false, List, [], ◌∷◌, ◌++◌, length, Option, Some, None, option_and_then, refl, sym, ap, ◌∙◌, arith, subst}
-use Rattle.patr_parse.proofs.Names.{Value, Atom, Node, Structure, arc, IsReached, IsValue, IsStructure, IsUnifier, some_inj, and_then_some, arc_of_longer, arc_value}
-use Rattle.patr_model.specs.Structure.{at, IsBelow}
+use Rattle.std.proofs.Common.{◌≡◌, ℕ, ◌<◌, List, [], ◌∷◌, ◌++◌, length, Some, option_and_then, sym, ap, ◌∙◌}
+use Rattle.patr_parse.proofs.Names.{Value, Node, Structure, arc, IsReached, IsValue, IsStructure, IsUnifier, some_inj, and_then_some}
+use Rattle.patr_model.specs.Structure.{at}
 use Rattle.patr_model.proofs.Maps.{takes_before, maps_into_shorter, maps_into_longer}
 use Rattle.patr_model.proofs.EquationStructures.{at_of_longer, at_value}
 

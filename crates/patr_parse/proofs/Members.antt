@@ -1,5 +1,5 @@
 -- Members of lists, by their places.
-use Rattle.std.proofs.Common.{◌≡◌, ℕ, zero, suc, List, [], ◌∷◌, ◌++◌, Some, slice_get, sym, ap, subst}
+use Rattle.std.proofs.Common.{◌≡◌, List, ◌∷◌, ◌++◌, sym, subst}
 use Rattle.std.specs.List.{AllByRecursion}
 use Rattle.patr_lists.proofs.Alls.{all_right}
 

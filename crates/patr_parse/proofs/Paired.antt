@@ -1,11 +1,11 @@
 -- The pairs that a task decides are those of its edge, each once: so the sum of the partners is the number of adjacent pairs.
-use Rattle.std.proofs.Common.{◌≡◌, inl, inr, ℕ, suc, ◌+◌, ◌<◌, ◌≤◌, Bool, true, false, cond, get_or, List, [], ◌∷◌, ◌++◌, length, take, map, Option, Some, None, slice_get, refl, sym, ap, arith, subst, length-append}
+use Rattle.std.proofs.Common.{◌≡◌, ℕ, ◌+◌, ◌<◌, ◌≤◌, Bool, true, false, cond, get_or, List, ◌++◌, length, take, map, Option, Some, None, slice_get, refl, sym, arith, subst, length-append}
 use Rattle.std.proofs.lemmas.List.{length-map, length-take, take_more}
 use Rattle.std.proofs.lemmas.Option.{slice_get_within}
 use Rattle.patr_lists.proofs.Members.{one_place, in_at, front_in, in_map, map_in, once_map}
 use Rattle.patr_lists.proofs.Tables.{places_length}
 use Rattle.patr_lists.specs.Members.{NoRepeats, IsIn}
-use Rattle.patr_parse.proofs.Names.{Rules, Derivation, Begin, Extend, size, IsSolvable, ArePartners, HasPairs, Shown, Edge, is_passive, AreEdges, partners, derivations, KindsFit, Draft, AreMade, pair}
+use Rattle.patr_parse.proofs.Names.{Rules, Begin, Extend, size, IsSolvable, ArePartners, HasPairs, Shown, Edge, is_passive, AreEdges, partners, derivations, KindsFit, Draft, AreMade, pair}
 use Rattle.patr_model.specs.Rounds.{ArePairs, ArePairsOf}
 use Rattle.patr_model.proofs.Rounds.{counted}
 use Rattle.patr_chart.specs.Charted.{is_partner, partners_of, tree}

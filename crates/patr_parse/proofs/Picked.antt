@@ -1,5 +1,5 @@
 -- The numbers of the members that pass a test are given once.
-use Rattle.std.proofs.Common.{◌≡◌, ℕ, suc, ◌+◌, ◌<◌, ◌≤◌, Bool, true, false, cond, nat_eq, List, [], ◌∷◌, refl, ap, arith, eqb-true, eq-eqb}
+use Rattle.std.proofs.Common.{◌≡◌, ℕ, suc, ◌<◌, ◌≤◌, Bool, true, false, cond, nat_eq, List, [], ◌∷◌, refl, ap, arith, eqb-true, eq-eqb}
 use Rattle.patr_lists.specs.Numbers.{places}
 use Rattle.patr_model.proofs.Shared.{one_if, count}
 

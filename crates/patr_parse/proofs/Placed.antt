@@ -1,11 +1,11 @@
 -- A block behind the nodes by which it was made, and behind more nodes.
-use Rattle.std.proofs.Common.{◌≡◌, ◌⊎◌, inl, inr, ℕ, ◌+◌, ◌-◌, ◌<◌, ◌≤◌, Bool, true, false, cond, nat_eq, nat_lt, ltb-true, ltb-false, lt-ltb, List, [], ◌∷◌, ◌++◌, length, length-append, map, take, get_or, Option, Some, None, refl, sym, ap, ◌∙◌, subst, arith}
+use Rattle.std.proofs.Common.{◌≡◌, ◌⊎◌, inl, inr, ℕ, ◌+◌, ◌-◌, ◌<◌, ◌≤◌, Bool, true, false, cond, nat_eq, nat_lt, ltb-true, ltb-false, lt-ltb, List, [], ◌∷◌, length, length-append, map, get_or, Option, Some, None, refl, sym, ap, ◌∙◌, arith}
 use Rattle.std.specs.Option.{option_map}
 use Rattle.std.specs.List.{sum}
 use Rattle.std.proofs.lemmas.List.{length-map, get_or_append_left, get_or-append-add, take_all}
 use Rattle.std.proofs.Math.ListN.{get_or-map}
 use Rattle.std.proofs.lemmas.Bool.{le-ltb}
-use Rattle.patr_parse.proofs.Names.{Value, Atom, Node, Structure, arc, IsValue, IsStructure, arc_of_longer, arc_value, Ref, Feature, Shown, IsShown, number_of, Extends, with_block, held_below, same_number_held, own, made_of}
+use Rattle.patr_parse.proofs.Names.{Value, Atom, Node, Structure, arc, IsValue, arc_of_longer, arc_value, Ref, Feature, Shown, IsShown, number_of, Extends, with_block, held_below, same_number_held, own, made_of}
 use Rattle.patr_model.specs.Structure.{along}
 use Rattle.patr_arena.specs.declared.value.Ref.TheVariants as ref
 use Rattle.patr_arena.specs.Shown.{ref_of, arc_from, arcs_from}

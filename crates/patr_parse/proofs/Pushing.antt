@@ -1,5 +1,5 @@
 -- A draft's edge, once its nodes stand behind some others.
-use Rattle.std.proofs.Common.{◌≡◌, ℕ, Bool, true, false, List, [], ◌∷◌, ◌++◌, length, Some, slice_get, refl, sym, ap, ◌∙◌, arith, subst}
+use Rattle.std.proofs.Common.{ℕ, Bool, true, false, List, [], ◌∷◌, length, refl, sym, ap, ◌∙◌, arith, subst}
 use Rattle.patr_parse.proofs.Names.{extends_on, Value, Structure, arc, IsStructure, IsUnifier, Images, Keeps, Rules, size, IsLeastValue, arc_value, map_some, Extends, with_block, Shown, IsShown, ValueIsHeld, value_of, value_below, made_of, Counts, Edge, kind_passive, derivations, derived, derived_by, Stored, Bounds, Draft, IsDraft, with_root, HasSource, IsJoined, IsSoundEdge, daughters, IsRootBy, IsReady}
 use Rattle.patr_arena.specs.declared.value.Value as its
 use Rattle.patr_chart.specs.Charted.{tree}

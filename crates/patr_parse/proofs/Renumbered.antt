@@ -1,5 +1,5 @@
 -- A structure whose nodes stand in another one, maybe at other places: unifiers, counts and what is kept go along.
-use Rattle.std.proofs.Common.{◌≡◌, ◌≢◌, inl, inr, ℕ, ◌<◌, ◌≤◌, Bool, true, false, cond, nat_eq, nat_lt, eqb-true, eq-eqb, ltb-true, lt-ltb, List, [], ◌∷◌, ◌++◌, length, length-append, map, Option, Some, None, refl, sym, ap, ◌∙◌, arith, subst}
+use Rattle.std.proofs.Common.{◌≡◌, inl, inr, ℕ, ◌<◌, ◌≤◌, Bool, true, false, cond, nat_eq, nat_lt, eqb-true, eq-eqb, ltb-true, lt-ltb, List, [], ◌∷◌, ◌++◌, length, length-append, map, Option, Some, None, refl, sym, ap, ◌∙◌, arith, subst}
 use Rattle.std.specs.Option.{option_map}
 use Rattle.std.proofs.lemmas.List.{get_or_append_left, length-map}
 use Rattle.patr_lists.proofs.Members.{map_in, in_map}
@@ -8,7 +8,7 @@ use Rattle.patr_parse.proofs.Names.{Value, Atom, Node, Structure, arc, IsReached
 use Rattle.patr_model.specs.Structure.{at}
 use Rattle.patr_model.specs.Subsumption.{image, IsMap, MapsInto}
 use Rattle.patr_model.specs.Settled.{SideNode, Left, Right, IsSideNode, image_of, arc_of, IsAlone}
-use Rattle.patr_model.proofs.Maps.{carries, after, after_is_map, image_after, maps_transitive, maps_into_longer, maps_into_shorter}
+use Rattle.patr_model.proofs.Maps.{carries, after, after_is_map, image_after, maps_transitive}
 use Rattle.patr_model.proofs.EquationStructures.{at_of_longer}
 use Rattle.patr_model.proofs.Steps.{has_place}
 use Rattle.patr_parse.proofs.Longer.{reached_more, reached_less, reached_value, reached_on}

@@ -1,5 +1,5 @@
 -- A parsed sentence is what is promised.
-use Rattle.std.proofs.Common.{◌≡◌, ◌≤◌, ℕ, suc, List, [], ◌∷◌, length, refl, ap, arith}
+use Rattle.std.proofs.Common.{◌≤◌, ℕ, List, length, arith}
 use Rattle.std.proofs.lemmas.List.{length-map}
 use Rattle.patr_model.proofs.Renaming.{each_length}
 use Rattle.patr_parse.proofs.Names.{Id, ids, Each}

@@ -1,15 +1,14 @@
 -- The steps of the rounds.
-use Rattle.std.proofs.Common.{◌≡◌, inl, inr, ℕ, zero, suc, ◌+◌, ◌<◌, ◌≤◌, List, [], ◌∷◌, ◌++◌, length, take, Option, Some, None, slice_get, refl, sym, ap, ◌∙◌, arith, subst, append-nil, append_assoc, length-append}
+use Rattle.std.proofs.Common.{◌≡◌, inl, inr, ℕ, suc, ◌+◌, ◌<◌, ◌≤◌, List, [], ◌∷◌, ◌++◌, length, take, Option, Some, None, slice_get, refl, sym, ap, ◌∙◌, arith, subst, append-nil, append_assoc, length-append}
 use Rattle.std.proofs.lemmas.List.{map-append, length-map, take_more, take-append-le, get_or_append_left}
 use Rattle.std.proofs.Math.Seq.{take-length}
 use Rattle.std.proofs.lemmas.Option.{slice_get_within}
 use Rattle.patr_lists.proofs.Places.{get_parts}
 use Rattle.patr_lists.proofs.Members.{in_cases, in_left, one_place, in_at, once_left}
 use Rattle.patr_lists.specs.Members.{IsIn}
-use Rattle.patr_parse.proofs.Names.{Rules, Derivation, Begin, Extend, Judgement, InChart, IsChart, HasMoreThan, some_inj, IsWorked, rounds, EdgeKind, Rule, Back, Edge, HasOrigin, IsEdgeAfter, derived_by, derived, derivations, KindsFit, made_by, AreSmall, Stands}
+use Rattle.patr_parse.proofs.Names.{Rules, Derivation, Begin, Extend, Judgement, InChart, IsChart, HasMoreThan, IsWorked, rounds, Back, Edge, HasOrigin, IsEdgeAfter, derived_by, derived, derivations, KindsFit, made_by, AreSmall, Stands}
 use Rattle.patr_model.specs.Rounds.{IsPredicted, IsYield}
-use Rattle.patr_chart.specs.declared.edge.EdgeKind.TheVariants.{Entry}
-use Rattle.patr_chart.specs.Charted.{alone, derivation_at, derivations_from, tree}
+use Rattle.patr_chart.specs.Charted.{derivation_at, derivations_from, tree}
 use Rattle.patr_chart.proofs.Trees.{from_append}
 use Rattle.patr_parse.specs.Tasks.{by_edges, HasLarge}
 use Rattle.patr_parse.specs.Standing.{MayBePushed, IsMadeOfTwo, IsRound}

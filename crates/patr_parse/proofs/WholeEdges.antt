@@ -5,7 +5,7 @@ use Rattle.patr_lists.proofs.Conditions.{and_left, and_right}
 use Rattle.patr_lists.proofs.Alls.{all_at, all_get}
 use Rattle.patr_lists.proofs.Places.{get_there}
 use Rattle.patr_lists.proofs.Members.{place_of}
-use Rattle.patr_parse.proofs.Names.{Value, Atom, Node, Structure, Rules, Derivation, Begin, InChart, IsChart, IsSolvable, IsLeastValue, variant_steps, Shown, value_of, EdgeKind, Rule, Edge, is_passive, HasOrigin, AreEdges, derivations, KindsFit, from_length, is_judged, RuleItem, Stored, IsRuleItem, keys, root_of, AreSound, is_whole}
+use Rattle.patr_parse.proofs.Names.{Value, Atom, Node, Structure, Rules, Derivation, Begin, InChart, IsChart, IsSolvable, IsLeastValue, variant_steps, Shown, value_of, EdgeKind, Rule, Edge, is_passive, HasOrigin, AreEdges, derivations, KindsFit, is_judged, RuleItem, Stored, IsRuleItem, keys, root_of, AreSound, is_whole}
 use Rattle.patr_model.specs.Structure as structure
 use Rattle.patr_model.specs.Category.{atom_of, atom_at}
 use Rattle.patr_model.specs.Derivation.{rule_variant}

@@ -1,5 +1,5 @@
 -- What two edges come to together.
-use Rattle.std.specs.Prelude.{◌≡◌, ◌+◌, ◌<◌, ◌≤◌, ℕ, Bool, true, false, List, Some}
+use Rattle.std.specs.Prelude.{◌≡◌, ◌+◌, ◌≤◌, ℕ, Bool, true, false, Some}
 use Rattle.patr_model.specs.Structure.{Value, Structure, arc}
 use Rattle.patr_arena.specs.Shown.{Shown}
 use Rattle.patr_unify.specs.Deciding.{Counts}

@@ -1,14 +1,14 @@
 -- What a task decides: the pairs of an edge with its partners.
-use Rattle.std.specs.Prelude.{◌≡◌, ℕ, ◌<◌, ◌≤◌, Bool, cond, List, ◌++◌, take, map, Some, slice_get}
+use Rattle.std.specs.Prelude.{◌≡◌, ℕ, ◌<◌, ◌≤◌, Bool, cond, List, map, Some, slice_get}
 use Rattle.patr_lists.specs.Members.{IsIn, NoRepeats}
 use Rattle.patr_model.specs.Derivation.{Rules, Derivation, Extend, size}
 use Rattle.patr_model.specs.Chart.{Judgement}
-use Rattle.patr_model.specs.Rounds.{IsPair, IsYield}
+use Rattle.patr_model.specs.Rounds.{IsPair}
 use Rattle.patr_arena.specs.Shown.{Shown, IsShown, IsHeld}
 use Rattle.patr_arena.specs.Blocks.{Extends}
 use Rattle.patr_chart.specs.declared.edge.Edge.{Edge}
 use Rattle.patr_chart.specs.Edges.{AreAdjacent}
-use Rattle.patr_chart.specs.Charted.{IsEdgeAfter, tree, derived, derivations}
+use Rattle.patr_chart.specs.Charted.{tree, derived, derivations}
 use Rattle.patr_chart.specs.Laws.{KindsFit}
 use Rattle.patr_library.specs.declared.item.RuleItem.{RuleItem}
 use Rattle.patr_model.specs.Solved.{solved}

@@ -15,7 +15,7 @@ pub use parse::{ParseCause, parse_alone, parse_words};
 pub use parsed::Parsed;
 pub use patr_pool::{Gate, OpenGate};
 pub use patr_text::{Fault, Memory};
-pub use sentence::words_of;
+pub use sentence::{known_word, words_of};
 
 #[cfg(test)]
 mod tests;

@@ -36,8 +36,8 @@ pub fn words_of<'a>(alloc: Global, sentence: &'a str) -> Result<Vec<&'a str>, Me
     Ok(words)
 }
 
-// The number of a word that has an entry.
-fn known_word(library: &Library, symbols: &Symbols, word: &str) -> Option<Id>
+/// The number of a word, where it has an entry.
+pub fn known_word(library: &Library, symbols: &Symbols, word: &str) -> Option<Id>
     requires { IsTable symbols.now }
     ensures { MatchOption result (IsKnown library.now symbols.now word.now → ⊥) (λ id. IsNumberOf
         library.now symbols.now word.now id.0) }

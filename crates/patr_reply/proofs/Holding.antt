@@ -1,6 +1,6 @@
 -- The variants of a library name no other symbols than those that the library holds.
-use Rattle.std.proofs.Common.{◌≡◌, ℕ, zero, suc, ◌<◌, ◌≤◌, Bool, true, false, cond, nat_lt, lt-ltb, ltb-true, List, [], ◌∷◌, ◌++◌, map, Option, Some, None, IfSome, option_map, option_and_then, filter_map, slice_get, refl, sym, ap, ◌∙◌, subst, arith}
-use Rattle.patr_reply.proofs.Names.{AllByRecursion, AllIn, AllInRows, AllPass, AreHeldBy, AreNamed, AtomText, Done, EntryIsHeld, EntryOf, EntryVariant, Equates, Equation, EquationIsHeld, EquationText, FeatureIsHeld, FeatureText, Id, MayBeBelow, Names, None', OfPath, One, OneOf, Optional, Or, Passes, PathOf, Row, Rows, RuleIsHeld, RuleText, RuleVariant, Stored, SymbolIsHeld, SymbolText, Term, TermIsHeld, TermPasses, TermText, all_append, all_at, all_flat, all_map, and_then_some, category_equations, cons_option, entries_of, entry_seen, entry_variant, Meaning, Template, TemplateIsHeld, all_written_out, chosen, entry_variant_of, entry_variants, equation_variants, facts_of, feature_equation, gloss_fact, grammar_of, meaning_of, meanings, meanings_from, meant, same, with_template, written_out, head_slot, keys, number, placed_equation, placed_term, products, rule_variant, rule_variant_of, rule_variants, rules_of, single, slice_get-map, some_inj, variants, variants_of}
+use Rattle.std.proofs.Common.{◌≡◌, ℕ, zero, suc, ◌<◌, ◌≤◌, Bool, true, false, cond, nat_lt, lt-ltb, List, [], ◌∷◌, ◌++◌, map, Option, Some, None, IfSome, option_map, option_and_then, filter_map, slice_get, refl, sym, ap, ◌∙◌, subst, arith}
+use Rattle.patr_reply.proofs.Names.{AllByRecursion, AllIn, AllInRows, AllPass, AreHeldBy, AreNamed, AtomText, Done, EntryIsHeld, EntryOf, EntryVariant, Equates, Equation, EquationIsHeld, EquationText, FeatureIsHeld, FeatureText, Id, MayBeBelow, Names, None', OfPath, One, OneOf, Optional, Or, Passes, PathOf, Row, Rows, RuleIsHeld, RuleText, RuleVariant, Stored, SymbolIsHeld, SymbolText, Term, TermIsHeld, TermPasses, TermText, all_append, all_at, all_flat, all_map, and_then_some, category_equations, cons_option, entries_of, entry_seen, entry_variant, Meaning, Template, TemplateIsHeld, all_written_out, chosen, entry_variant_of, entry_variants, equation_variants, facts_of, feature_equation, gloss_fact, grammar_of, meaning_of, meanings_from, meant, same, with_template, written_out, head_slot, keys, number, placed_equation, placed_term, products, rule_variant, rule_variant_of, rule_variants, rules_of, single, slice_get-map, some_inj, variants, variants_of}
 use Rattle.std.specs.Option as options
 use Rattle.patr_model.specs.Plain.{stated}
 use Rattle.patr_model.proofs.StatedCategories.{everything, every_rule, every_entry}

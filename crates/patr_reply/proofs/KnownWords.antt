@@ -16,7 +16,7 @@ numbers_are names table agrees (w ∷ words) (n ∷ ws) h =
     ap (λ k. k ∷ ws) (sym (agrees n w h.0)) ∙ ap (λ l. names.number w ∷ l) (numbers_are names table agrees words ws h.1)
 
 module _ (s : Stored) (table : List (List ℕ)) (names : Numbering) (agrees : AgreesWith names table) (held : AreHeldBy (length table) s) where
-  known : (w : List ℕ) → IsKnown s table w → session.IsKnown (grounds names s) w
+  pub known : (w : List ℕ) → IsKnown s table w → session.IsKnown (grounds names s) w
   known w h =
       let x = h.1 in
       let variants_of = entry_variants number same keys (meant s.grammar.templates.items) in
@@ -32,7 +32,7 @@ module _ (s : Stored) (table : List (List ℕ)) (names : Numbering) (agrees : Ag
   all_known [] h = tt
   all_known (w ∷ words) h = (known w h.0, all_known words h.1)
 
-  known_back : (w : List ℕ) → session.IsKnown (grounds names s) w → IsKnown s table w
+  pub known_back : (w : List ℕ) → session.IsKnown (grounds names s) w → IsKnown s table w
   known_back w h =
       let x = entry_from s h.0 h.1 h.2 h.3 in
       let t = get_there table x.0.word.0 (entry_below (length table) s held h.0 x.0 x.1).1 in

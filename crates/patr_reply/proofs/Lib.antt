@@ -6,6 +6,7 @@ pub mod LeastTexts
 pub mod Holding
 pub mod Sounding
 pub mod Listing
+pub mod Showing
 pub mod KnownWords
 pub mod Words
 pub mod Reading

@@ -1,6 +1,6 @@
 -- The reply to a sentence, by its parts.
 use Rattle.std.proofs.Common.{◌≡◌, ℕ, suc, ◌+◌, ◌<◌, Bool, true, false, List, [], ◌∷◌, ◌++◌, length, map, take, get_or, slice_get, codes, decimal, refl, sym, ap, ◌∙◌, subst, arith, append_assoc, append-nil, ltb-true}
-use Rattle.patr_reply.proofs.Names.{AgreesWith, AllByRecursion, AreHeldBy, AreSound, CountsEdges, Edge, Extends, Found, Grounds, IsAnalysis, IsChart, IsLeastText, IsReady, IsSound, ListsAll, ListsAnalyses, Look, Numbering, Rules, Shown, Stored, analysis_lines, analysis_text, canonical, cat_of, count_line, derivations, edge_value, from_length, get_there, grounds, keys, length-map, length-take-le, line, listing, look_by, rules_of, solved, state_of, table_look, table_text, take_more, text_or, total, tree, tree_line, value_at, value_line, value_of, zeros}
+use Rattle.patr_reply.proofs.Names.{AgreesWith, AllByRecursion, AreHeldBy, AreSound, CountsEdges, Edge, Extends, Found, Grounds, IsAnalysis, IsChart, IsLeastText, IsReady, IsSound, ListsAll, ListsAnalyses, Look, Numbering, Rules, Shown, Stored, analysis_lines, analysis_text, canonical, cat_of, count_line, derivations, edge_value, from_length, get_there, grounds, keys, length-map, length-take-le, line, listing, look_by, numbered, rules_of, solved, state_of, table_look, table_text, take_more, text_or, total, tree, tree_line, value_at, value_line, value_of, zeros}
 use Rattle.patr_text.specs.Texts.{first_texts}
 use Rattle.patr_reply.proofs.Holding.{below}
 use Rattle.patr_reply.proofs.LeastTexts.{named_text}
@@ -9,31 +9,31 @@ use Rattle.patr_reply.proofs.TreeText.{text_of}
 
 -- ---- the lines, one analysis after another
 
-module _ (l m : Look) (g : Rules) (v : Shown) (es : List Edge) (features : Bool) where
-  abbrev one_text : ℕ → ℕ → List ℕ
-  one_text = analysis_text l m g v es features
+module _ {X : Type 0} (f : ℕ → X → List ℕ) where
+  -- one more text
+  numbered_append : (n : ℕ) (ks : List X) (k : X) → numbered f n (ks ++ k ∷ []) ≡ numbered f n ks ++ f (length ks + n) k
+  numbered_append n [] k = append-nil (f n k) ∙ ap (λ i. f i k) (let e : n ≡ 0 + n = omega arith in e)
+  numbered_append n (j ∷ ks) k =
+      ap (λ t. f n j ++ t) (numbered_append (suc n) ks k) ∙ (sym (append_assoc (f n j) (numbered f (suc n) ks) (f (length ks + suc n) k))
+      ∙ ap (λ i. (f n j ++ numbered f (suc n) ks) ++ f i k) (let e : length ks + suc n ≡ suc (length ks) + n = omega arith in e))
 
+  pub numbered_more : (ks : List X) (d : X) (i : ℕ) → i < length ks → numbered f 1 (take (i + 1) ks) ≡ numbered f 1 (take i ks) ++ f (i + 1) (get_or ks i d)
+  numbered_more ks d i h =
+      ap (numbered f 1) (take_more ks i d h)
+      ∙ (numbered_append 1 (take i ks) (get_or ks i d) ∙ ap (λ j. numbered f 1 (take i ks) ++ f (j + 1) (get_or ks i d)) (length-take-le i ks (omega (arith, h))))
+
+module _ (l m : Look) (g : Rules) (v : Shown) (es : List Edge) (features : Bool) where
   abbrev lines : ℕ → List ℕ → List ℕ
   lines = analysis_lines l m g v es features
-
-  -- one more analysis
-  lines_append : (n : ℕ) (ks : List ℕ) (k : ℕ) → lines n (ks ++ k ∷ []) ≡ lines n ks ++ one_text (length ks + n) k
-  lines_append n [] k = append-nil (one_text n k) ∙ ap (λ i. one_text i k) (let e : n ≡ 0 + n = omega arith in e)
-  lines_append n (j ∷ ks) k =
-      ap (λ t. one_text n j ++ t) (lines_append (suc n) ks k) ∙ (sym (append_assoc (one_text n j) (lines (suc n) ks) (one_text (length ks + suc n) k))
-      ∙ ap (λ i. (one_text n j ++ lines (suc n) ks) ++ one_text i k) (let e : length ks + suc n ≡ suc (length ks) + n = omega arith in e))
 
   pub step_listed : (ks : List ℕ) (i : ℕ) → i < length ks → (head old middle new : List ℕ) → old ≡ head ++ lines 1 (take i ks)
       → middle ≡ old ++ tree_line l g es (i + 1) (get_or ks i 0) → new ≡ middle ++ value_line m v es features (get_or ks i 0) → new ≡ head ++ lines 1 (take (i + 1) ks)
   step_listed ks i h head old middle new is tree more =
-      let k = get_or ks i 0 in
-      let lines_are : lines 1 (take (i + 1) ks) ≡ lines 1 (take i ks) ++ one_text (i + 1) k =
-      ap (lines 1) (take_more ks i 0 h) ∙ (lines_append 1 (take i ks) k ∙ ap (λ j. lines 1 (take i ks) ++ one_text (j + 1) k) (length-take-le i ks (omega (arith, h)))) in
-      rw lines_are (simp (more, tree, is, append_assoc))
+      rw (numbered_more (analysis_text l m g v es features) ks 0 i h) (simp (more, tree, is, append_assoc))
 
 -- ---- by the table and by a numbering
 
-texts_by : (names : Numbering) (table : List (List ℕ)) → AgreesWith names table → (c : ℕ) → below (length table) c ≡ true → table_text table c ≡ names.text c
+pub texts_by : (names : Numbering) (table : List (List ℕ)) → AgreesWith names table → (c : ℕ) → below (length table) c ≡ true → table_text table c ≡ names.text c
 texts_by names table agrees c h =
     let one = get_there table c (ltb-true c (length table) h) in
     ap (λ o. text_or o (zeros (suc (total table + c)))) one.1 ∙ sym (text_of names table agrees c one.0 one.1)

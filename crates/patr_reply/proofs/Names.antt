@@ -7,7 +7,7 @@ pub use Rattle.patr_chart.specs.declared.edge.EdgeKind.{EdgeKind}
 pub use Rattle.patr_chart.specs.declared.edge.EdgeKind.TheVariants.{Rule}
 pub use Rattle.patr_grammar.specs.Reading.{IsText, equation_seen, features_seen}
 pub use Rattle.patr_lexicon.specs.Seen.{entry_seen}
-pub use Rattle.patr_library.specs.Stored.{IsRuleItem, IsStored, Stored, entries_of, grammar_of, keys, meant, number, rules_of, same}
+pub use Rattle.patr_library.specs.Stored.{IsEntryItem, IsRuleItem, IsStored, is_of_word, word_at, Stored, entries_of, grammar_of, keys, meant, number, rules_of, same}
 pub use Rattle.patr_lists.proofs.Alls.{all_append, all_at, all_flat, all_get, all_left, all_map, all_right}
 pub use Rattle.patr_lists.proofs.Places.{get_there}
 pub use Rattle.patr_lists.proofs.Results.{if_ok_is}
@@ -28,9 +28,9 @@ pub use Rattle.patr_model.specs.Text.{Look, canonical, entry_category, entry_wor
 pub use Rattle.patr_parse.specs.Found.{AreSound, Found, IsOfItem, IsSound}
 pub use Rattle.patr_parse.specs.Sentences.{AreNumbers, IsFirstCause, IsFirstUnknown, IsKnown, IsParsed}
 pub use Rattle.patr_reply.specs.Held.{AllIn, AllInRows, AreHeldBy, EntryIsHeld, EquationIsHeld, FeatureIsHeld, LibrariesAreHeld, MayBeBelow, PathIsHeld, RuleIsHeld, SymbolIsHeld, TemplateIsHeld, TermIsHeld}
-pub use Rattle.patr_reply.specs.Lines.{analysis_lines, analysis_text, count_line, grounds, listing, look_by, state_of, tree_line, value_line}
+pub use Rattle.patr_reply.specs.Lines.{analysis_lines, analysis_text, count_line, grounds, item_line, item_value, items_text, listing, look_by, numbered, state_of, tree_line, value_line}
 pub use Rattle.patr_reply.specs.Naming.{AllPass, AreNamed, HasNamed, LeastValuesNameSymbols, Passes, TermPasses}
-pub use Rattle.patr_reply.specs.Sources.{AreOfLibrary, IsEntryOf, IsOfLibrary, IsReady, IsRuleOf, edge_value, value_at}
+pub use Rattle.patr_reply.specs.Sources.{AreOfLibrary, IsEntryOf, IsItemReady, IsOfLibrary, IsReady, IsRuleOf, edge_value, value_at}
 pub use Rattle.patr_reply.specs.Writing.{IsHeld, IsStep, root_text, step_text, step_weight, steps_text, steps_weight}
 pub use Rattle.patr_reply.specs.declared.tree.Step.TheVariants.{Mark, Tree}
 pub use Rattle.patr_text.specs.Texts.{Extends}

@@ -12,6 +12,7 @@ use Rattle.patr_chart.specs.declared.edge.EdgeKind.{EdgeKind}
 use Rattle.patr_chart.specs.declared.edge.EdgeKind.TheVariants.{Entry, Rule}
 use Rattle.patr_chart.specs.declared.edge.Edge.{Edge}
 use Rattle.patr_library.specs.declared.item.RuleItem.{RuleItem}
+use Rattle.patr_library.specs.declared.item.EntryItem.{EntryItem}
 use Rattle.patr_library.specs.Stored.{Stored, rules_of}
 use Rattle.patr_canon.specs.Walks.{AreSpelled}
 
@@ -58,3 +59,10 @@ pub record IsReady (n : ℕ) (v : Shown) (es : List Edge) (k : ℕ) : Type 0 whe
   pub there : slice_get es k ≡ Some edge
   pub held : ValueIsHeld v edge.root
   pub spelled : AreSpelled n v.structure (value_of v edge.root)
+
+-- the item of an entry at place k is there, its root is held, and the symbols to which paths from it lead have texts
+pub record IsItemReady (n : ℕ) (v : Shown) (items : List EntryItem) (k : ℕ) : Type 0 where
+  pub item : EntryItem
+  pub there : slice_get items k ≡ Some item
+  pub held : ValueIsHeld v item.root
+  pub spelled : AreSpelled n v.structure (value_of v item.root)

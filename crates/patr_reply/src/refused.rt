@@ -29,7 +29,7 @@ fn word_at<'a>(words: &[&'a str], position: u32) -> &'a str
 }
 
 /// The line on a word without an entry, at this position.
-fn unknown_line(alloc: Global, position: u32, word: &str) -> Result<String, Memory>
+pub(crate) fn unknown_line(alloc: Global, position: u32, word: &str) -> Result<String, Memory>
     ensures { IfOk result (λ text. string_bytes text ≡ line (codes "error: unknown word at " ++ decimal position ++ codes ": " ++ word.now)) }
 {
     format!(in alloc; "error: unknown word at {position}: {word}\n")

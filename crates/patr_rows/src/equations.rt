@@ -95,7 +95,7 @@ const SESSIONS: &[Row] = &[
     Row {
         grammar: AGREEMENT,
         lexicon: DOGS,
-        input: b":limit 200001\n:limit 0\n:count\n:count On\n:show the\n:grammar\n:quit now\n:limit 0000001\n",
+        input: b":limit 200001\n:limit 0\n:count\n:count On\n:show\n:grammar\n:quit now\n:limit 0000001\n",
         code: 0,
         written: b"error: bad command\nerror: bad command\nerror: bad command\nerror: bad command\nerror: bad command\nerror: bad command\nerror: bad command\nerror: bad command\n",
     },

@@ -6,6 +6,8 @@ mod choices;
 #[cfg(test)]
 mod devices;
 #[cfg(test)]
+mod entries;
+#[cfg(test)]
 mod equations;
 #[cfg(test)]
 mod faults;

@@ -1,6 +1,6 @@
 -- Where the words, the files and the input are as they should be and no device fails, a run is done, or memory was short.
 use Rattle.std.proofs.Common.{◌≡◌, ◌⊎◌, ◌≤◌, ◌<◌, ◌^◌, ℕ, List, [], ◌∷◌, Option, Some, None, IfSome, Bool, true, false, true≢false, length, take, refl, sym, ◌∙◌, ap, subst, inl, inr, arith}
-use Rattle.patr_shell.proofs.Names.{OnTrue, IsSomeAnd, get, Rose, HasCause, Files, IsAbsent, solved, Setup, Session, IsOpening, IsOut, IsSession, Follows, first_state, BuildFault, InGrammar, InLexicon, build_fault, lines_with_commands, stage, built, some_inj, one_grammar, no_grammar_fault, one_lexicon, no_lexicon_fault, same_text, Status, Refusal, HasQuit, Names, Builds, HasBadGrammar, HasBadLexicon, HaveSession, LooksAt, grammar, lexicon, CannotLoad, HasRefusal, IsSessionStatus, IsEndOf, status_of, HasWritten, Writes, IsWithin, MayBeDone}
+use Rattle.patr_shell.proofs.Names.{OnTrue, IsSomeAnd, get, Rose, HasCause, Files, IsAbsent, solved, Setup, Session, IsOpening, IsOut, IsSession, Follows, first_state, BuildFault, InGrammar, InLexicon, build_fault, lines_with_commands, stage, built, some_inj, one_grammar, no_grammar_fault, one_lexicon, no_lexicon_fault, same_text, Status, Refusal, HasQuit, Names, Builds, HasBadGrammar, HasBadLexicon, HaveSession, LooksAt, grammar, lexicon, CannotLoad, HasRefusal, IsSessionStatus, IsEndOf, HasWritten, Writes, IsWithin, MayBeDone}
 use Rattle.patr_model.specs.Session.{Numbering, Grounds, State, Replied, whole_lines_of}
 use Rattle.patr_model.specs.Run as run
 use Rattle.patr_model.specs.GrammarText.{ReadsGrammar, grammar_fault_line}
@@ -11,7 +11,7 @@ use Rattle.patr_shell.specs.declared.status.GrammarTrouble.{GrammarTrouble}
 use Rattle.patr_shell.specs.declared.status.GrammarTrouble.TheVariants as grammar_trouble
 use Rattle.patr_shell.specs.declared.status.LexiconTrouble.{LexiconTrouble}
 use Rattle.patr_shell.specs.declared.status.LexiconTrouble.TheVariants as lexicon_trouble
-use Rattle.patr_shell.specs.declared.status.Status.TheVariants.{Done, BadGrammar, BadLexicon, ReadFault, WriteFault, Memory, InputTooLong}
+use Rattle.patr_shell.specs.declared.status.Status.TheVariants.{Done, ReadFault, WriteFault, Memory, InputTooLong}
 use Rattle.patr_shell.specs.declared.refusal.Refusal.TheVariants as refusal
 use Rattle.patr_shell.proofs.RunLaws.{one_opening, numbered_tables}
 

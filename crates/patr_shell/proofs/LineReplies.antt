@@ -1,6 +1,6 @@
 -- What a line comes to, by what it is.
 use Rattle.std.proofs.Common.{◌≡◌, ℕ, ◌<◌, Bool, true, false, true≢false, cond, nat_eq, List, [], ◌∷◌, Option, Some, None, length, get_or, refl, sym, ap, ◌∙◌, subst, arith, eqb-true, eq-eqb, MatchBool, Bor, map, codes}
-use Rattle.patr_shell.proofs.Names.{Decides, same_text, solved, lines_with_commands, session_command, some_inj, Spoken, grounds, state_seen, command_seen, HasFirstWord, AreQuit, IsAnswerToCommand, IsAnswerToWords, Reply}
+use Rattle.patr_shell.proofs.Names.{Decides, same_text, solved, lines_with_commands, built_command, some_inj, Spoken, grounds, state_seen, command_seen, HasFirstWord, AreQuit, IsAnswerToCommand, IsAnswerToWords, Reply}
 use Rattle.std.specs.Option.{option_map, option_and_then}
 use Rattle.std.specs.String.{string_bytes}
 use Rattle.patr_shell.proofs.CommandLine.{not_same}
@@ -30,7 +30,7 @@ colon_text (b ∷ bs) cs ws e = go (nat_eq b 58) refl
     go false q = cc
 
 -- one of two commands is spelled
-either : (c : Command) (t : Bool) (x y : Option Command) (b : Bool) → (t ≡ true → b ≡ true) → (option_and_then session_command y ≡ Some c → b ≡ true) → option_and_then session_command (cond t x y) ≡ Some c → b ≡ true
+either : (c : Command) (t : Bool) (x y : Option Command) (b : Bool) → (t ≡ true → b ≡ true) → (option_and_then built_command y ≡ Some c → b ≡ true) → option_and_then built_command (cond t x y) ≡ Some c → b ≡ true
 either c true x y b f g e = f refl
 either c false x y b f g e = g e
 
@@ -67,26 +67,26 @@ spelled name value = lines_with_commands.command (name ∷ value ∷ [])
 
 -- a choice that is decided
 abbrev passed : Bool → Option Command → Option Command → Option Command
-passed t x y = option_and_then session_command (cond t x y)
+passed t x y = option_and_then built_command (cond t x y)
 
-pub two_others : (name value : List ℕ) → (name ≡ codes ":limit" → ⊥) → (name ≡ codes ":features" → ⊥) → (name ≡ codes ":count" → ⊥) → spelled name value ≡ None
-two_others name value a b c =
+pub two_others : (name value : List ℕ) → (name ≡ codes ":limit" → ⊥) → (name ≡ codes ":features" → ⊥) → (name ≡ codes ":count" → ⊥) → (name ≡ codes ":show" → ⊥) → spelled name value ≡ None
+two_others name value a b c d =
     ap (λ t. passed t (option_map (λ n. Limit n) (number_of 200000 value)) (cond (same_text name (codes ":features")) (option_map (λ b. Features b) (switch value))
     (cond (same_text name (codes ":count")) (option_map (λ b. Count b) (switch value)) (cond (same_text name (codes ":show")) (Some (Show value)) (cond (same_text name (codes ":make")) (option_map (λ n. Make n) (number_of 256 value)) None))))) (not_same name (codes ":limit") a)
     ∙ (ap (λ t. passed t (option_map (λ b. Features b) (switch value)) (cond (same_text name (codes ":count")) (option_map (λ b. Count b) (switch value)) (cond (same_text name (codes ":show")) (Some (Show value)) (cond (same_text name (codes ":make")) (option_map (λ n. Make n) (number_of 256 value)) None)))) (not_same name (codes ":features") b)
     ∙ (ap (λ t. passed t (option_map (λ b. Count b) (switch value)) (cond (same_text name (codes ":show")) (Some (Show value)) (cond (same_text name (codes ":make")) (option_map (λ n. Make n) (number_of 256 value)) None))) (not_same name (codes ":count") c)
-    ∙ later (same_text name (codes ":show")) (same_text name (codes ":make")) (number_of 256 value)))
+    ∙ (ap (λ t. passed t (Some (Show value)) (cond (same_text name (codes ":make")) (option_map (λ n. Make n) (number_of 256 value)) None)) (not_same name (codes ":show") d)
+    ∙ later (same_text name (codes ":make")) (number_of 256 value))))
   where
-    later : (t u : Bool) (n : Option ℕ) → passed t (Some (Show value)) (cond u (option_map (λ n. Make n) n) None) ≡ None
-    later true u n = refl
-    later false true None = refl
-    later false true (Some n) = refl
-    later false false n = refl
+    later : (u : Bool) (n : Option ℕ) → option_and_then built_command (cond u (option_map (λ n. Make n) n) None) ≡ None
+    later true None = refl
+    later true (Some n) = refl
+    later false n = refl
 
 pub one_other : (name : List ℕ) → (name ≡ codes ":quit" → ⊥) → lines_with_commands.command (name ∷ []) ≡ None
 one_other name h = ap (λ t. passed t (Some Quit) (cond (same_text name (codes ":grammar")) (Some Grammar) None)) (not_same name (codes ":quit") h) ∙ later (same_text name (codes ":grammar"))
   where
-    later : (t : Bool) → option_and_then session_command (cond t (Some Grammar) None) ≡ None
+    later : (t : Bool) → option_and_then built_command (cond t (Some Grammar) None) ≡ None
     later true = refl
     later false = refl
 
@@ -135,11 +135,11 @@ module _ (spoken : Spoken) (st : CodeState) where
   )
 
   -- they spell a command
-  pub command_answers : (words : List (List ℕ)) (c : CodeCommand) (a : Option Reply) → Some (command_seen c) ≡ lines_with_commands.command words → IsAnswerToCommand st c a → IsAnswerToWords spoken st words a
+  pub command_answers : (words : List (List ℕ)) (c : CodeCommand) (a : Option Reply) → Some (command_seen c) ≡ lines_with_commands.command words → IsAnswerToCommand spoken st c a → IsAnswerToWords spoken st words a
   command_answers words c None e h = sym e ∙ ap (λ x. Some (command_seen x)) h
   command_answers [] c (Some r) e h = cc
   command_answers (w ∷ ws) c (Some r) e h = (
     λ q. h.0 (is_quit c (some_inj (command_seen c) Quit (e ∙ q))),
     λ N agrees. by_colon (grounds N spoken) (state_seen st) (w ∷ ws) (string_bytes r.text) (state_seen r.state) true (omega arith) (command_colon (w ∷ ws) (command_seen c) (sym e))
-        (subst (λ o. IsColonReply solved lines_with_commands (grounds N spoken) (state_seen st) o (string_bytes r.text) (state_seen r.state)) e (h.1 spoken N)),
+        (subst (λ o. IsColonReply solved lines_with_commands (grounds N spoken) (state_seen st) o (string_bytes r.text) (state_seen r.state)) e (h.1 N agrees)),
   )

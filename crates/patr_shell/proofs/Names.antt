@@ -14,7 +14,7 @@ pub use Rattle.patr_model.specs.Bytes.{same_text}
 pub use Rattle.patr_model.specs.CommandLine.{named, value_or}
 unfoldable pub use Rattle.patr_model.specs.CommandLine.{said}
 pub use Rattle.patr_model.specs.LexiconText.{EntryText, lexicon_fault_line}
-pub use Rattle.patr_model.specs.Notations.{fault_ending, lines_with_commands, session_command}
+pub use Rattle.patr_model.specs.Notations.{fault_ending, lines_with_commands, built_command}
 pub use Rattle.patr_model.specs.Openings.{Answered, HasOneOpening, SessionRepliesBegin, TablesAreNumbered}
 pub use Rattle.patr_model.specs.Renaming.{Each, IgnoresNumbers}
 pub use Rattle.patr_model.specs.Run.{Follows, IsOpening, IsOut, IsSession, Session, Setup, first_state}

@@ -2,6 +2,7 @@
 use Rattle.std.proofs.Common.{◌≡◌, ◌<◌, ◌≤◌, ◌-◌, ◌+◌, ℕ, List, [], ◌++◌, Option, None, Some, IfSome, Bool, true, false, length, take, drop, leb, refl, sym, ◌∙◌, ap, subst, append_assoc, append-nil, arith, length-append, take-append-drop}
 use Rattle.patr_shell.proofs.Names.{nat_tests, take_all, take_at, length-take-le, Appends, Consumes, IsAtEnd, Appends-trans, solved, lines_with_commands, Numbering, AgreesWith, Grounds, Replied, whole_lines_of, lines_of, built, SessionRepliesBegin, least_texts, replies_begin, session_one, Spoken, grounds, state_seen, AppendsFront, HasAnswered, HasEnded, HasBegun, HasWrittenSession, HasBegunSession, too_long_line, last_piece, last_line, AnswerFault}
 use Rattle.patr_model.specs.Session as session
+use Rattle.patr_model.proofs.Shown.{one_more}
 use Rattle.patr_model.specs.Run.{Ending, Done, InputTooLong, IsSession, ended, quit, too_long}
 use Rattle.patr_shell.specs.declared.state.State.{State}
 use Rattle.patr_shell.proofs.Cuts.{lines_of_two, lines_are}
@@ -58,11 +59,11 @@ module _ (bytes piece rest : List ℕ) (within : ℕ) (short : length bytes + wi
 -- ---- the texts of a session
 
 session_begins : SessionRepliesBegin
-session_begins = λ s. replies_begin solved lines_with_commands s (least_texts s) (λ st c x y m n. absurd m)
+session_begins = λ s. replies_begin solved lines_with_commands s (least_texts s) (one_more s)
 
 -- a session has one text
 one_text : (s : Grounds) (st : session.State) (input x y : List ℕ) (e f : Ending) → IsSession built s st input x e → IsSession built s st input y f → x ≡ y
-one_text s st input x y e f h k = (session_one built s (λ st c x y m n. absurd m) st input x y e f h k).0
+one_text s st input x y e f h k = (session_one built s (one_more s) st input x y e f h k).0
 
 lines_go_on : (bytes more : List ℕ) → lines_of (bytes ++ more) ≡ whole_lines_of bytes ++ (whole_lines_of (last_piece bytes ++ more) ++ last_line (last_piece (bytes ++ more)))
 lines_go_on bytes more =

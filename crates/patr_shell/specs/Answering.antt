@@ -25,9 +25,10 @@ use Rattle.patr_shell.specs.declared.session.Next.TheVariants.{GoesOn, Ends}
 -- ---- what a line comes to
 
 -- what a command comes to: none for the one that ends the session, and else its reply and the state behind it
-abbrev pub IsAnswerToCommand : State → Command → Option Reply → Type 0
-IsAnswerToCommand st c None = c ≡ Quit
-IsAnswerToCommand st c (Some r) = (c ≡ Quit → ⊥) × ((spoken : Spoken) (N : Numbering) → IsCommandReply solved lines_with_commands (grounds N spoken) (state_seen st) (command_seen c) (string_bytes r.text) (state_seen r.state))
+abbrev pub IsAnswerToCommand : Spoken → State → Command → Option Reply → Type 0
+IsAnswerToCommand spoken st c None = c ≡ Quit
+IsAnswerToCommand spoken st c (Some r) = (c ≡ Quit → ⊥)
+    × ((N : Numbering) → AgreesWith N spoken.texts → IsCommandReply solved lines_with_commands (grounds N spoken) (state_seen st) (command_seen c) (string_bytes r.text) (state_seen r.state))
 
 -- there are words, and the first begins with a colon or not
 abbrev pub HasFirstWord : List (List ℕ) → Bool → Type 0

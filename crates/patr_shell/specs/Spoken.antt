@@ -10,7 +10,7 @@ use Rattle.patr_reply.specs.Held.{AreHeldBy}
 use Rattle.patr_reply.specs.Lines as library
 use Rattle.patr_shell.specs.declared.state.State.{State}
 use Rattle.patr_shell.specs.declared.command.Command.{Command}
-use Rattle.patr_shell.specs.declared.command.Command.TheVariants.{Limit, Features, Count, Quit}
+use Rattle.patr_shell.specs.declared.command.Command.TheVariants.{Limit, Features, Count, Show, Quit}
 
 -- the texts of symbols by their numbers, and the library of a grammar and a lexicon with these symbols
 pub record Spoken : Type 0 where
@@ -43,6 +43,7 @@ abbrev pub command_seen : Command → session.Command
 command_seen (Limit n) = session.Limit n
 command_seen (Features b) = session.Features b
 command_seen (Count b) = session.Count b
+command_seen (Show w) = session.Show w.now
 command_seen Quit = session.Quit
 
 -- the number of a command, where it has one, is a limit on edges that may be set

@@ -10,7 +10,7 @@ use crate::command::{Command, command_of, on_off};
 use crate::state::State;
 use crate::{Gate, Language, Memory};
 use patr_parse::{Fault, parse_words, words_of};
-use patr_reply::{refusal, reply};
+use patr_reply::{refusal, reply, show};
 use patr_scratch::Scratch;
 use patr_unify::Steps;
 use std::alloc::{AllocError, Global};
@@ -80,10 +80,15 @@ fn sentence_reply<L: Ledger, G: Gate>(
 }
 
 /// What a command comes to; none where it ends the session.
-fn command_answer(alloc: Global, state: State, command: Command) -> Result<Option<Reply>, Memory>
+fn command_answer(
+    alloc: Global,
+    language: &Language,
+    state: State,
+    command: Command<'_>,
+) -> Result<Option<Reply>, Memory>
     requires limit { HasLimit state }
     requires set { MayBeSet command }
-    ensures answer { IfOk result (λ answer. IsAnswerToCommand state command answer) }
+    ensures answer { IfOk result (λ answer. IsAnswerToCommand language.now state command.entry answer) }
     ensures limit { IfOk result (λ answer. IfSome answer (λ r. HasLimit r.state)) }
 {
     match command {
@@ -98,6 +103,10 @@ fn command_answer(alloc: Global, state: State, command: Command) -> Result<Optio
         Command::Count(count) => Ok(Some(Reply {
             text: format!(in alloc; "count {}\n", on_off(count))?,
             state: State { count, ..state },
+        })),
+        Command::Show(word) => Ok(Some(Reply {
+            text: show(alloc, language.symbols(), language.library(), word)?,
+            state,
         })),
         Command::Quit => Ok(None),
     }
@@ -141,7 +150,7 @@ fn words_answer<G: Gate>(
         return Ok(Some(Reply { text, state }));
     }
     match command_of(words) {
-        Some(command) => command_answer(alloc, state, command),
+        Some(command) => command_answer(alloc, language, state, command),
         None => {
             let text = String::from_str(alloc, "error: bad command\n")?;
             Ok(Some(Reply { text, state }))

@@ -9,13 +9,15 @@ use crate::command_line::{MOST_EDGES, number_of};
 
 /// A command of a session.
 #[derive(Clone, Copy, Debug, PartialEq, Eq)]
-pub enum Command {
+pub enum Command<'a> {
     /// The most edges that a chart may have, from 1 to 200,000.
     Limit(u32),
     /// Whether each analysis is written with its features.
     Features(bool),
     /// Whether the number of edges is written.
     Count(bool),
+    /// The variants of this word's entries are written.
+    Show(&'a str),
     /// The session ends.
     Quit,
 }
@@ -32,7 +34,7 @@ fn switch(word: &str) -> Option<bool>
 }
 
 /// The command of one word.
-fn command_of_one(name: &str) -> Option<Command>
+fn command_of_one<'a>(name: &str) -> Option<Command<'a>>
     ensures command { option_map command_seen result ≡ lines_with_commands.command (name.now ∷ []) }
     ensures limit { IfSome result MayBeSet }
 {
@@ -43,21 +45,22 @@ fn command_of_one(name: &str) -> Option<Command>
 }
 
 /// The command of two words.
-fn command_of_two(name: &str, value: &str) -> Option<Command>
+fn command_of_two<'a>(name: &str, value: &'a str) -> Option<Command<'a>>
     ensures command { option_map command_seen result
         ≡ lines_with_commands.command (name.now ∷ value.now ∷ []) }
     ensures limit { IfSome result MayBeSet }
 {
     match name {
-        ":limit" => number_of(MOST_EDGES, value).map(Command::Limit),
-        ":features" => switch(value).map(Command::Features),
-        ":count" => switch(value).map(Command::Count),
+        ":limit" => Some(Command::Limit(number_of(MOST_EDGES, value)?)),
+        ":features" => Some(Command::Features(switch(value)?)),
+        ":count" => Some(Command::Count(switch(value)?)),
+        ":show" => Some(Command::Show(value)),
         _ => None,
     }
 }
 
 /// The command that the words of a line spell, where they spell one.
-pub fn command_of(words: &[&str]) -> Option<Command>
+pub fn command_of<'a>(words: &[&'a str]) -> Option<Command<'a>>
     ensures command { option_map command_seen result
         ≡ lines_with_commands.command (map (λ w. w.now) words.now) }
     ensures limit { IfSome result MayBeSet }

@@ -180,7 +180,7 @@ module _ (s : Grounds) (made : AreReady s.rules (cat_of s)) where
       let tail = counted st.count ws ts chart in
       (_, (us.0, body.0, tail.0, us.1, body.1, tail.1, refl))
 
-  known_decided : (w : List ℕ) → IsKnown s w ⊎ (IsKnown s w → ⊥)
+  pub known_decided : (w : List ℕ) → IsKnown s w ⊎ (IsKnown s w → ⊥)
   known_decided w = elim (search_variants (IsKnown s w) (λ e k. (entry : EntryVariant) → entry_variant s.rules e k ≡ Some entry → entry.word ≡ s.names.number w → ⊥) at_entry s.rules.entries) [
     | inl k ↦ inl k
     | inr none ↦ inr (λ h. none h.0 h.1 h.2 h.3 h.2 h.3 h.4)

@@ -20,6 +20,7 @@ use Rattle.patr_model.specs.Notations as stages
 use Rattle.patr_model.specs.Notations.{lines_with_commands}
 use Rattle.patr_model.proofs.StatedCategories.{are_built}
 use Rattle.patr_model.proofs.Numberings.{tables_are_numbered}
+use Rattle.patr_model.proofs.Shown.{more_same, one_more}
 use Rattle.patr_model.proofs.RenamedRuns.{stage_same}
 use Rattle.patr_model.proofs.OneRun.{stage_runs}
 use Rattle.patr_model.specs.Built.{stage}
@@ -140,12 +141,12 @@ runs_at : (s : Stage) → WritesOne (stages.notations s lines_with_commands)
 runs_at s words files input =
     let N = (tables_are_numbered [] (λ i j t e f. cc)).0 in
     let r = out s lines_with_commands N session_replies words files input in
-    let all = λ (X : Numbering). stage_same s lines_with_commands (λ s s' same st c x m. m) (λ s st c x y m n. absurd m) N X words files input r.0 r.1 r.2 in (
+    let all = λ (X : Numbering). stage_same s lines_with_commands more_same one_more N X words files input r.0 r.1 r.2 in (
       r.0,
       r.1,
       record {
         is = all;
-        only = λ X x e h. stage_runs s lines_with_commands (λ s s' same st c x m. m) (λ s st c x y m n. absurd m) X X words files input x r.0 e r.1 h (all X);
+        only = λ X x e h. stage_runs s lines_with_commands more_same one_more X X words files input x r.0 e r.1 h (all X);
       },
     )
 

@@ -1,4 +1,4 @@
-use Rattle.std.proofs.Common.{◌≡◌, ◌<◌, ◌++◌, ◌∷◌, [], Bool, List, ℕ, take, ◌+◌, sym, ap, ◌∙◌, subst}
+use Rattle.std.proofs.Common.{◌≡◌, ◌<◌, Bool, List, ℕ, take, ◌+◌, sym, ap, ◌∙◌, subst}
 use Rattle.patr_lists.specs.Numbers.{places}
 use Rattle.patr_parse.proofs.Names.{view_of, Edge, AreEdges, is_whole}
 use Rattle.patr_parse.proofs.Gathered.{found_more, found_same}

@@ -1,4 +1,4 @@
-use Rattle.std.proofs.Common.{◌≡◌, ℕ, true, false, rules, List, map, Bor, length, refl, sym, ap, ◌∙◌, subst, arith}
+use Rattle.std.proofs.Common.{◌≡◌, true, false, rules, length, refl, sym, ap, ◌∙◌, subst, arith}
 use Rattle.patr_parse.proofs.Names.{extends_same, Extends, ids, sentence_of, IsShown, rules_of, keys, HasMoreThan, AreAll, AreSound, judge}
 use Rattle.patr_parse.specs.Closing.{IsClosed}
 use Rattle.patr_parse.proofs.Sound.{numbers_short}

@@ -1,5 +1,5 @@
-use Rattle.std.proofs.Common.{◌≡◌, ◌∙◌, ◌<◌, [], length, map, refl, sym, append-nil, subst, arith}
-use Rattle.patr_parse.proofs.Names.{Id, end, sentence_of, rules_of, judge, begun_by, next_of, ArePushed, ArePredicted, IsMarked}
+use Rattle.std.proofs.Common.{◌≡◌, ◌∙◌, [], length, map, refl, sym, append-nil, subst, arith}
+use Rattle.patr_parse.proofs.Names.{Id, end, sentence_of, rules_of, begun_by, next_of, ArePushed, ArePredicted, IsMarked}
 use Rattle.patr_chart.specs.Charted.{tree}
 use Rattle.patr_parse.proofs.Predicting.{predicted_all}
 use Rattle.patr_parse.proofs.Ready.{further, not_further}

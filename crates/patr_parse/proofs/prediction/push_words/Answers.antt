@@ -1,6 +1,6 @@
-use Rattle.std.proofs.Common.{◌≡◌, ◌<◌, ◌+◌, true, length, take, get_or, refl, ap, ◌∙◌, subst, arith, length-append}
+use Rattle.std.proofs.Common.{◌≡◌, length, take, refl, ap, ◌∙◌, subst, arith}
 use Rattle.std.proofs.Math.Seq.{take-length}
-use Rattle.patr_parse.proofs.Names.{sentence_of, rules_of, leaves_at, leaves_from, ArePushed}
+use Rattle.patr_parse.proofs.Names.{sentence_of, rules_of, leaves_from}
 use Rattle.patr_parse.proofs.Pushed.{numbers_of, Behind, behind_none, word_full, word_more}
 use Rattle.patr_parse.proofs.prediction.push_words.Goals as goal
 

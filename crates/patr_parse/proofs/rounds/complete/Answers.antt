@@ -1,5 +1,3 @@
-use Rattle.std.proofs.Common.{◌≡◌}
-use Rattle.patr_parse.proofs.Names.{sentence_of}
 use Rattle.patr_parse.proofs.Drafted.{completed}
 use Rattle.patr_parse.proofs.rounds.complete.Goals as goal
 

@@ -1,7 +1,7 @@
-use Rattle.std.proofs.Common.{◌≡◌, ◌<◌, ◌+◌, ◌∙◌, [], true, false, length, sym, ap, subst, arith, rules}
+use Rattle.std.proofs.Common.{◌≡◌, ◌<◌, ◌+◌, ◌∙◌, [], true, false, length, sym, subst, arith, rules}
 use Rattle.patr_model.proofs.Bare.{not_true}
 use Rattle.patr_lexicon.proofs.Trims.{not_not}
-use Rattle.patr_parse.proofs.Names.{rules_of, IsRoundAt}
+use Rattle.patr_parse.proofs.Names.{IsRoundAt}
 use Rattle.patr_parse.specs.Drafts.{drafts_of, is_stop}
 use Rattle.patr_parse.proofs.Drafted.{round_begins, round_full, round_large, round_more}
 use Rattle.patr_parse.proofs.rounds.draft_all.Goals as goal

@@ -1,4 +1,4 @@
-use Rattle.std.proofs.Common.{◌≡◌, ◌++◌, List, length}
+use Rattle.std.proofs.Common.{◌≡◌, ◌++◌, length}
 use Rattle.std.specs.Vec.Iter.{into_iter_items, into_iter_len}
 use Rattle.patr_parse.proofs.Names.{sentence_of, ArePlaced}
 use Rattle.patr_parse.proofs.rounds.push_all.Given as goal

@@ -12,7 +12,7 @@ returns-then-not-colon-clause-answer g c = sentence_answer c.args.language.now c
 pub returns-in-Some-command_of-clause-answer : goal.returns-in-Some-command_of-clause-answer
 returns-in-Some-command_of-clause-answer g c =
     let words = map (λ (w : Bor (List ℕ)). w.now) c.args.words.now in
-    IfOk-weaker c.command_answer.result (IsAnswerToCommand c.args.state c.in-Some-command_of.command) (IsAnswerToWords c.args.language.now c.args.state words)
+    IfOk-weaker c.command_answer.result (IsAnswerToCommand c.args.language.now c.args.state c.in-Some-command_of.command) (IsAnswerToWords c.args.language.now c.args.state words)
     (λ a h. command_answers c.args.language.now c.args.state words c.in-Some-command_of.command a c.in-Some-command_of.ensures.command h) c.command_answer.ensures.answer
 
 pub returns-in_ok-text-in-None-clause-answer : goal.returns-in_ok-text-in-None-clause-answer

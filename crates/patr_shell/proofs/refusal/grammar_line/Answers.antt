@@ -1,4 +1,4 @@
-use Rattle.std.proofs.Common.{List, ◌∙◌, ap, sym}
+use Rattle.std.proofs.Common.{◌∙◌, ap, sym}
 use Rattle.std.proofs.lemmas.Result.{IfOk-weaker}
 use Rattle.patr_model.specs.GrammarText.{grammar_fault_line}
 use Rattle.patr_shell.proofs.refusal.grammar_line.Goals as goal

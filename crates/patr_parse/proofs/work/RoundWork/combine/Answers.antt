@@ -1,5 +1,5 @@
-use Rattle.std.proofs.Common.{rules, arith, ◌≡◌, ◌≢◌, None, false, true, [], ◌∷◌, refl, sym, ap, ◌∙◌, subst}
-use Rattle.patr_parse.proofs.Names.{Structure, Value, Node, IsUnifier, ValueIsHeld, number_of, value_of, Counts, rules_of, daughters}
+use Rattle.std.proofs.Common.{rules, arith, ◌≡◌, ◌≢◌, None, false, true, [], ◌∷◌, refl, sym, ap, subst}
+use Rattle.patr_parse.proofs.Names.{Structure, Value, IsUnifier, ValueIsHeld, number_of, value_of, Counts, rules_of, daughters}
 use Rattle.patr_model.specs.Structure.{at}
 use Rattle.patr_model.specs.Subsumption.{TakesBoth}
 use Rattle.patr_parse.proofs.Joins.{facts, partners_near}

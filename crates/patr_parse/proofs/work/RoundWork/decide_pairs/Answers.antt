@@ -1,6 +1,6 @@
-use Rattle.std.proofs.Common.{◌≡◌, ◌<◌, ◌+◌, [], ◌∙◌, ℕ, cond, true, false, length, take, get_or, sym, ap, subst, arith, rules}
+use Rattle.std.proofs.Common.{◌≡◌, ◌+◌, [], ◌∙◌, true, false, length, take, sym, ap, subst, arith, rules}
 use Rattle.std.proofs.Math.Seq.{take-length}
-use Rattle.patr_parse.proofs.Names.{Extend, size, IsSolvable, partners, rules_of, AreMade, ArePartners, IsIn, pair}
+use Rattle.patr_parse.proofs.Names.{partners, rules_of, AreMade}
 use Rattle.patr_parse.proofs.Paired.{next_partners, next_large, next_made, partners_few, task_gave}
 use Rattle.patr_parse.proofs.Tasks.{made_nothing}
 use Rattle.patr_parse.proofs.work.RoundWork.decide_pairs.Goals as goal
